@@ -1,0 +1,4 @@
+pub mod Cause
+pub mod MemMachine
+pub mod Told
+pub mod formers
