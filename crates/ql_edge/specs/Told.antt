@@ -1,5 +1,5 @@
 -- What a device has shown and warned, where it tells its bytes.
-use Rattle.std.specs.Prelude.{ℕ, List, ◌++◌, Option, Some, None}
+use Rattle.std.specs.Prelude.{◌≡◌, ℕ, ◌≤◌, List, ◌++◌, length, take, Option, Some, None, option_map}
 
 -- the bytes shown and the bytes warned, or nothing where they are not told
 abbrev pub Told : Type 0
@@ -14,3 +14,17 @@ with_shown piece (Some t) = Some (t.0 ++ piece, t.1)
 abbrev pub with_warned : List ℕ → Told → Told
 with_warned piece None = None
 with_warned piece (Some t) = Some (t.0, t.1 ++ piece)
+
+-- the bytes shown, where they are told
+abbrev pub shown_of : Told → Option (List ℕ)
+shown_of told = option_map (λ t. t.0) told
+
+-- the bytes warned, where they are told
+abbrev pub warned_of : Told → Option (List ℕ)
+warned_of told = option_map (λ t. t.1) told
+
+-- a front of a text was shown, and nothing else
+pub record ShowsFront (text : List ℕ) (before now : Told) : Type 0 where
+  pub count : ℕ
+  pub within : count ≤ length text
+  pub told : now ≡ with_shown (take count text) before

@@ -47,4 +47,11 @@ impl Name {
     {
         self.bytes.as_slice()
     }
+
+    pub fn into_bytes(self) -> Bytes
+        ensures { result ≡ self }
+    {
+        let Name { bytes } = self;
+        bytes
+    }
 }

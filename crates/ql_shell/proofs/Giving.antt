@@ -1,0 +1,145 @@
+-- An answer that is given a statement at a time.
+use Rattle.std.proofs.Common.{◌≡◌, ℕ, ◌+◌, ◌<◌, List, [], ◌∷◌, ◌++◌, length, take, Some, None, Ok, Err, ◌⊎◌, inl, inr, option_map, refl, sym, ap, ◌∙◌, append_assoc, append-nil, length-append, arith}
+use Rattle.std.proofs.lemmas.List.{take_all}
+use Rattle.std.proofs.Math.Seq.{take-append-add}
+use Rattle.ql_edge.specs.Told.{Told, with_shown, shown_of, warned_of, ShowsFront}
+use Rattle.ql_parse.specs.declared.first.FirstStatement.{FirstStatement}
+use Rattle.ql_value.specs.declared.refusal.Refusal.{Refusal}
+use Rattle.ql_shell.specs.Meaning.{Answer, preceded, onward, meaning, Means, usage, too_long, not_yet, carried_out}
+use Rattle.ql_edge.specs.declared.fault.DeviceFault.{DeviceFault}
+use Rattle.ql_edge.specs.declared.fault.DeviceFault.TheVariants as device
+use Rattle.ql_shell.specs.Cause.{status_of, stopped_by}
+use Rattle.ql_shell.specs.declared.step.StepFault.{StepFault}
+use Rattle.ql_shell.specs.declared.step.StepFault.TheVariants as step
+use Rattle.ql_shell.specs.Pieces.{RunsOn}
+use Rattle.ql_shell.specs.Run.{Gives, IsFinal, IsReadingFault}
+use Rattle.ql_shell.specs.Tables.{Table, Effect, effect, text_of}
+use Rattle.ql_shell.specs.declared.status.Status.{Status}
+use Rattle.ql_shell.specs.declared.status.Status.TheVariants.{Done, Script, Refused, Usage, Fault, NoMemory}
+use Rattle.ql_shell.specs.declared.status.ScriptFault.TheVariants.{TooLong, NotYet}
+use Rattle.ql_shell.specs.declared.script_run.TheConstants.{SCRIPT_LIMIT}
+use Rattle.ql_shell.proofs.Pieces.{shown_none, shown_twice, front_none, front_longer}
+
+pub runs_begin : (all : Answer) (told : Told) → RunsOn all told told all
+runs_begin all told = record { done = []; told = sym (shown_none told); whole = refl }
+
+-- a statement was carried out
+pub runs_on : (all : Answer) (before now now' : Told) (number : ℕ) (s : FirstStatement) (ss : List FirstStatement) (tables after : List Table) (text : List ℕ)
+    → RunsOn all before now (meaning number (s ∷ ss) tables) → effect s tables ≡ Ok (text, after) → now' ≡ with_shown text now → RunsOn all before now' (meaning (number + 1) ss after)
+runs_on all before now now' number s ss tables after text h done shown =
+    let there : meaning number (s ∷ ss) tables ≡ preceded text (meaning (number + 1) ss after) = ap (λ (e : Effect). onward number e (λ after. meaning (number + 1) ss after)) done in
+    record {
+      done = h.done ++ text;
+      told = shown ∙ ap (with_shown text) h.told ∙ shown_twice h.done text before;
+      whole = h.whole ∙ ap (preceded h.done) there ∙ ap (λ t. record { text = t; status = (meaning (number + 1) ss after).status }) (sym (append_assoc h.done text (meaning (number + 1) ss after).text));
+    }
+
+-- a statement was refused
+pub runs_refused : (all : Answer) (before now now' : Told) (number : ℕ) (s : FirstStatement) (ss : List FirstStatement) (tables : List Table) (r : Refusal)
+    → RunsOn all before now (meaning number (s ∷ ss) tables) → effect s tables ≡ Err r → now' ≡ now → Gives all (Refused number r) before now'
+runs_refused all before now now' number s ss tables r h refused same =
+    let there : all ≡ preceded h.done (onward number (Err r) (λ after. meaning (number + 1) ss after)) = h.whole ∙ ap (λ (e : Effect). preceded h.done (onward number e (λ after. meaning (number + 1) ss after))) refused in
+    (ap (λ (a : Answer). a.status) (sym there), same ∙ h.told ∙ ap (λ t. with_shown t before) (sym (ap (λ (a : Answer). a.text) there ∙ append-nil h.done)))
+
+-- the text of a statement stands in front of what is left
+text_in_front : (number : ℕ) (e : Effect) (more : List Table → Answer) → (rest : List ℕ) × ((onward number e more).text ≡ text_of e ++ rest)
+text_in_front number (Ok done) more = ((more done.1).text, refl)
+text_in_front number (Err r) more = ([], refl)
+
+-- a statement was cut off
+pub runs_cut : (all : Answer) (before now now' : Told) (number : ℕ) (s : FirstStatement) (ss : List FirstStatement) (tables : List Table)
+    → RunsOn all before now (meaning number (s ∷ ss) tables) → ShowsFront (text_of (effect s tables)) now now' → ShowsFront all.text before now'
+runs_cut all before now now' number s ss tables h part =
+    let rest = text_in_front number (effect s tables) (λ after. meaning (number + 1) ss after) in
+    let whole : all.text ≡ h.done ++ (text_of (effect s tables) ++ rest.0) = ap (λ (a : Answer). a.text) h.whole ∙ ap (λ t. h.done ++ t) rest.1 in
+    let longer = front_longer (text_of (effect s tables)) rest.0 now now' part in
+    record {
+      count = length h.done + longer.count;
+      within = omega (arith, ap length whole, length-append h.done (text_of (effect s tables) ++ rest.0), longer.within);
+      told = longer.told ∙ ap (with_shown (take longer.count (text_of (effect s tables) ++ rest.0))) h.told ∙ shown_twice h.done (take longer.count (text_of (effect s tables) ++ rest.0)) before
+          ∙ ap (λ t. with_shown t before) (sym (ap (take (length h.done + longer.count)) whole ∙ take-append-add h.done (text_of (effect s tables) ++ rest.0) longer.count));
+    }
+
+-- every statement was carried out
+pub runs_end : (all : Answer) (before now : Told) (number : ℕ) (tables : List Table) → RunsOn all before now (meaning number [] tables) → Gives all Done before now
+runs_end all before now number tables h =
+    (ap (λ (a : Answer). a.status) (sym h.whole), h.told ∙ ap (λ t. with_shown t before) (sym (ap (λ (a : Answer). a.text) h.whole ∙ append-nil h.done)))
+
+-- a fault or want of memory leaves a front of an answer's text
+pub gives_cut : (all : Answer) (fault : DeviceFault) (before now : Told) → ShowsFront all.text before now → Gives all (status_of fault) before now
+gives_cut all device.Failed before now h = h
+gives_cut all device.NoMemory before now h = h
+
+-- text that is shown leaves what is warned alone
+pub warned_with_shown : (text : List ℕ) (told : Told) → warned_of (with_shown text told) ≡ warned_of told
+warned_with_shown text None = refl
+warned_with_shown text (Some t) = refl
+
+pub shown_with_shown : (text : List ℕ) (told : Told) → shown_of (with_shown text told) ≡ option_map (λ shown. shown ++ text) (shown_of told)
+shown_with_shown text None = refl
+shown_with_shown text (Some t) = refl
+
+whole_front : (text : List ℕ) (before now : Told) → now ≡ with_shown text before → ShowsFront text before now
+whole_front text before now e = record { count = length text; within = omega arith; told = e ∙ ap (λ t. with_shown t before) (sym (take_all (length text) text (omega arith))) }
+
+-- whatever the status, a front of the answer's text was shown
+pub gives_front : (answer : Answer) (s : Status) (before now : Told) → Gives answer s before now → ShowsFront answer.text before now
+gives_front answer Fault before now h = h
+gives_front answer NoMemory before now h = h
+gives_front answer Done before now h = whole_front _ _ _ h.1
+gives_front answer (Script _) before now h = whole_front _ _ _ h.1
+gives_front answer (Refused _ _) before now h = whole_front _ _ _ h.1
+gives_front answer (Usage _) before now h = whole_front _ _ _ h.1
+
+pub gives_warned : (answer : Answer) (s : Status) (before now : Told) → Gives answer s before now → warned_of now ≡ warned_of before
+gives_warned answer s before now h = let f = gives_front answer s before now h in ap warned_of f.told ∙ warned_with_shown (take f.count answer.text) before
+
+-- without a fault and want of memory the answer was given whole
+pub gives_whole : (answer : Answer) (s : Status) (before now : Told) → IsFinal s → Gives answer s before now → (s ≡ answer.status) × (now ≡ with_shown answer.text before)
+gives_whole answer Fault before now final h = absurd final
+gives_whole answer NoMemory before now final h = absurd final
+gives_whole answer Done before now final h = h
+gives_whole answer (Script _) before now final h = h
+gives_whole answer (Refused _ _) before now final h = h
+gives_whole answer (Usage _) before now final h = h
+
+pub final_or_not : (s : Status) → IsFinal s ⊎ (s ≡ Fault) ⊎ (s ≡ NoMemory)
+final_or_not Fault = inr (inl refl)
+final_or_not NoMemory = inr (inr refl)
+final_or_not Done = inl tt
+final_or_not (Script _) = inl tt
+final_or_not (Refused _ _) = inl tt
+final_or_not (Usage _) = inl tt
+
+-- a script that was not read to its end for its length means just that
+pub gives_reading_fault : (answer : Answer) (s : Status) (words : ℕ) (script : List ℕ) (before now : Told) → IsReadingFault s → now ≡ before
+    → (s ≡ Script TooLong → SCRIPT_LIMIT < length script) → words ≡ 0 → Means words script answer → Gives answer s before now
+gives_reading_fault answer Fault words script before now only same long none h = rw same (front_none answer.text before)
+gives_reading_fault answer NoMemory words script before now only same long none h = rw same (front_none answer.text before)
+gives_reading_fault answer (Script TooLong) words script before now only same long none (usage some e) = absurd (omega arith)
+gives_reading_fault answer (Script TooLong) words script before now only same long none (too_long _ over e) = rw e (refl, same ∙ sym (shown_none before))
+gives_reading_fault answer (Script TooLong) words script before now only same long none (not_yet _ within none_reads e) = absurd (omega (arith, long refl))
+gives_reading_fault answer (Script TooLong) words script before now only same long none (carried_out _ within reads e) = absurd (omega (arith, long refl))
+gives_reading_fault answer (Script NotYet) words script before now only same long none h = absurd only
+gives_reading_fault answer Done words script before now only same long none h = absurd only
+gives_reading_fault answer (Refused _ _) words script before now only same long none h = absurd only
+gives_reading_fault answer (Usage _) words script before now only same long none h = absurd only
+
+pub means_reading_fault : (s : Status) (words : ℕ) (script : List ℕ) → IsReadingFault s → IsFinal s → (s ≡ Script TooLong → SCRIPT_LIMIT < length script) → words ≡ 0
+    → (answer : Answer) × Means words script answer × (s ≡ answer.status)
+means_reading_fault Fault words script only final long none = absurd final
+means_reading_fault NoMemory words script only final long none = absurd final
+means_reading_fault (Script TooLong) words script only final long none = (record { text = []; status = Script TooLong }, too_long none (long refl) refl, refl)
+means_reading_fault (Script NotYet) words script only final long none = absurd only
+means_reading_fault Done words script only final long none = absurd only
+means_reading_fault (Refused _ _) words script only final long none = absurd only
+means_reading_fault (Usage _) words script only final long none = absurd only
+
+-- a statement stopped the run
+pub runs_stopped : (all : Answer) (before now now' : Told) (number : ℕ) (s : FirstStatement) (ss : List FirstStatement) (tables : List Table) (fault : StepFault)
+    → RunsOn all before now (meaning number (s ∷ ss) tables)
+    → ((r : Refusal) → fault ≡ step.Refused r → (effect s tables ≡ Err r) × (now' ≡ now))
+    → ((f : DeviceFault) → fault ≡ step.Device f → ShowsFront (text_of (effect s tables)) now now')
+    → Gives all (stopped_by number fault) before now'
+runs_stopped all before now now' number s ss tables (step.Refused r) h refused cut = let e = refused r refl in runs_refused all before now now' number s ss tables r h e.0 e.1
+runs_stopped all before now now' number s ss tables (step.Device f) h refused cut = gives_cut all f before now' (runs_cut all before now now' number s ss tables h (cut f refl))

@@ -1,0 +1,28 @@
+use Rattle.std.proofs.Common.{◌+◌, [], Err, length, ap, ◌∙◌, arith}
+use Rattle.ql_shell.specs.Meaning.{meaning}
+use Rattle.ql_shell.proofs.Giving.{runs_on, runs_stopped}
+use Rattle.ql_shell.proofs.script_run.carry_out.Goals as goal
+
+pub statements-preserved : goal.statements-preserved
+statements-preserved g c =
+    let steps = c.in-Some.ensures.steps in
+    let runs = rw steps.0 at c.statements.invariant.runs in
+    let done = c.in-Ok.ensures.done in
+    record {
+      can_next = tt;
+      is_finite = tt;
+      items = omega (arith, ap length steps.0, steps.1, c.statements.invariant.items);
+      counted = omega (arith, steps.1, c.statements.invariant.counted);
+      small = c.statements.invariant.small;
+      runs = runs_on _ _ _ _ (c.statements.number + 1) c.in-Some.statement _ c.statements.tables _ done.0 runs done.1 done.2;
+      left = c.in-Ok.ensures.left ∙ c.statements.invariant.left;
+      fixed = c.in-Ok.ensures.fixed ∙ c.statements.invariant.fixed;
+      faults = c.in-Ok.ensures.cause ∙ c.statements.invariant.faults;
+    }
+
+pub returns-in-Err-clause-gives : goal.returns-in-Err-clause-gives
+returns-in-Err-clause-gives g c =
+    let steps = c.in-Some.ensures.steps in
+    let runs = rw steps.0 at c.statements.invariant.runs in
+    rw c.stopped.ensures (runs_stopped (meaning 1 c.args.statements []) _ _ _ (c.statements.number + 1) c.in-Some.statement _ c.statements.tables c.in-Err.fault runs
+    (λ r e. c.in-Err.ensures.refused r (ap Err e)) (λ f e. c.in-Err.ensures.fault f (ap Err e)))

@@ -1,0 +1,34 @@
+-- Which statuses a device's fault is the cause of, and what the count of faults does.
+use Rattle.std.specs.Prelude.{◌≡◌, ℕ, Result, Ok, Err}
+use Rattle.ql_edge.specs.Cause.{Rose}
+use Rattle.ql_edge.specs.declared.fault.DeviceFault.{DeviceFault}
+use Rattle.ql_edge.specs.declared.fault.DeviceFault.TheVariants as device
+use Rattle.ql_shell.specs.declared.status.Status.{Status}
+use Rattle.ql_shell.specs.declared.status.Status.TheVariants as status
+use Rattle.ql_shell.specs.declared.step.StepFault.{StepFault}
+use Rattle.ql_shell.specs.declared.step.StepFault.TheVariants as step
+
+-- the status of a run that a device's fault ends
+abbrev pub status_of : DeviceFault → Status
+status_of device.Failed = status.Fault
+status_of device.NoMemory = status.NoMemory
+
+-- the status of a run that a statement of a number stops
+abbrev pub stopped_by : ℕ → StepFault → Status
+stopped_by number (step.Refused refusal) = status.Refused number refusal
+stopped_by number (step.Device fault) = status_of fault
+
+-- `Fault` comes only where the count rose, and every other status leaves the count
+abbrev pub IsCausedStatus : Status → ℕ → ℕ → Type 0
+IsCausedStatus status.Fault before now = Rose before now
+IsCausedStatus _ before now = now ≡ before
+
+-- the same of a call that answers a status in place of a value
+abbrev pub IsCausedReading : {T : Type 0} → Result T Status → ℕ → ℕ → Type 0
+IsCausedReading (Ok _) before now = now ≡ before
+IsCausedReading (Err s) before now = IsCausedStatus s before now
+
+-- the same of a statement
+abbrev pub IsCausedStep : {T : Type 0} → Result T StepFault → ℕ → ℕ → Type 0
+IsCausedStep (Err (step.Device device.Failed)) before now = Rose before now
+IsCausedStep _ before now = now ≡ before
