@@ -1,13 +1,10 @@
 //! The command: carries out the script on standard input.
 #![tactic(auto)]
 
-use ql_edge::HostMachine;
-use ql_shell::{code, run};
+use ql_edge::{HostMachine, warn_all};
+use ql_shell::{Status, code, run};
 use std::process::ExitCode;
 use std::{env, io};
-
-/// The exit status where the words of the command line cannot be read.
-const UNREADABLE: u8 = 3;
 
 /// The words behind the program's name.
 fn words(rt: &HostRuntime) -> io::Result<Vec<String>> {
@@ -19,10 +16,13 @@ fn words(rt: &HostRuntime) -> io::Result<Vec<String>> {
 }
 
 fn main(rt: HostRuntime) -> ExitCode {
-    let Ok(words) = words(&rt) else {
-        return ExitCode::from(UNREADABLE);
-    };
     let alloc = rt.alloc();
-    let (_machine, status) = run(alloc, &words, HostMachine::new(rt));
+    let words = words(&rt);
+    let mut machine = HostMachine::new(rt);
+    let Ok(words) = words else {
+        let _ = warn_all(&mut machine, b"ql: device fault\n");
+        return ExitCode::from(code(&Status::Fault));
+    };
+    let (_machine, status) = run(alloc, &words, machine);
     ExitCode::from(code(&status))
 }

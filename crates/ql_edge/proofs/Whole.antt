@@ -1,5 +1,5 @@
 -- A text that is shown piece by piece is shown whole.
-use Rattle.std.proofs.Common.{◌≡◌, ℕ, ◌+◌, ◌-◌, List, ◌++◌, length, take, drop, Option, Some, None, refl, arith, append_assoc, length-drop, take-add}
+use Rattle.std.proofs.Common.{◌≡◌, ℕ, ◌+◌, ◌-◌, List, length, take, drop, Some, None, refl, arith, append_assoc, length-drop, take-add}
 use Rattle.std.proofs.lemmas.List.{take_all}
 use Rattle.ql_edge.specs.Told.{Told, with_shown, with_warned}
 

@@ -1,13 +1,8 @@
-ghost use Rattle.std.specs.Prelude.{◌≡◌, ◌<◌, ◌≤◌, [], length, None, IfOk};
-ghost use Rattle.ql_edge.specs.Cause.{Rose, IsCaused};
+ghost use Rattle.std.specs.Prelude.{◌≡◌, ◌<◌, ◌≤◌, [], length, None, IfSome};
+ghost use Rattle.ql_edge.specs.Cause.{Rose};
 
 use crate::{DeviceFault, Machine, Shows};
-use std::io;
-use std::io::{ErrorKind, Read};
-
-const STDOUT: i32 = 1;
-
-const STDERR: i32 = 2;
+use std::io::{ErrorKind, Read, Write};
 
 /// The machine that the program was started on: its standard streams.
 ///
@@ -18,6 +13,28 @@ pub struct HostMachine {
     faults: u64,
 }
 
+/// Writes a front of the piece, again where a signal interrupts it. Answers its length, or `None` after a failure.
+fn write_some<W: Write>(stream: &mut W, piece: &[u8]) -> Option<usize>
+    ensures within { IfSome result (λ n. n ≤ length piece.now) }
+    ensures some { IfSome result (λ n. 0 < length piece.now → 0 < n) }
+{
+    if piece.is_empty() {
+        return Some(0);
+    }
+    for _ in 0..u64::MAX {
+        match stream.write(piece) {
+            Ok(0) => return None,
+            Ok(written) => return Some(written),
+            Err(error) => {
+                if error.kind() != ErrorKind::Interrupted {
+                    return None;
+                }
+            }
+        }
+    }
+    None
+}
+
 impl HostMachine {
     pub fn new(rt: HostRuntime) -> HostMachine
         ensures { ⟦<HostMachine as Shows>⟧.faults result ≡ 0 }
@@ -25,33 +42,13 @@ impl HostMachine {
         HostMachine { rt, faults: 0 }
     }
 
+    /// Counts a failure.
     fn fail(&mut self) -> DeviceFault
         ensures fault { result ≡ DeviceFault.Failed }
         ensures rose { Rose self.old.faults self.new.faults }
     {
         self.faults = self.faults.saturating_add(1);
         DeviceFault::Failed
-    }
-
-    /// Writes a front of the piece to a stream. A stream that nobody reads any more is a fault, and no signal.
-    fn write(&mut self, stream: i32, piece: &[u8]) -> Result<u64, DeviceFault>
-        ensures within { IfOk result (λ n. n ≤ length piece.now) }
-        ensures some { IfOk result (λ n. 0 < length piece.now → 0 < n) }
-        ensures cause { IsCaused result self.old.faults self.new.faults }
-    {
-        if piece.is_empty() {
-            return Ok(0);
-        }
-        for _ in 0..u64::MAX {
-            let written = os::write_no_sigpipe(stream, piece);
-            if written > 0 && written as usize <= piece.len() {
-                return Ok(written as u64);
-            }
-            if written >= 0 || os::errno() != libc::EINTR {
-                break;
-            }
-        }
-        Err(self.fail())
     }
 }
 
@@ -71,11 +68,17 @@ impl Shows for HostMachine {
     ghost same_transitive = { λ _ _ _ _ _. tt };
 
     fn show(&mut self, piece: &[u8]) -> Result<u64, DeviceFault> {
-        self.write(STDOUT, piece)
+        match write_some(&mut self.rt.stdout(), piece) {
+            Some(written) => Ok(written as u64),
+            None => Err(self.fail()),
+        }
     }
 
     fn warn(&mut self, piece: &[u8]) -> Result<u64, DeviceFault> {
-        self.write(STDERR, piece)
+        match write_some(&mut self.rt.stderr(), piece) {
+            Some(written) => Ok(written as u64),
+            None => Err(self.fail()),
+        }
     }
 }
 

@@ -1,4 +1,7 @@
-ghost use Rattle.std.specs.Prelude.{◌≡◌, ℕ, ◌+◌, ◌-◌, ◌^◌, ◌<◌, ◌≤◌, List, [], length, min, drop, Some, Contains, IfOk, IfErr, OnOk, IsSomeAnd, refl};
+ghost use Rattle.std.specs.Prelude.{◌≡◌, ◌⊎◌, ◌↔◌, ℕ, ◌+◌, ◌-◌, ◌^◌, ◌<◌, ◌≤◌, List, [], length, min, take, drop, option_map, Some, Err, Contains, IfOk, IfErr, IfSome, OnOk, OnErr, IsSomeAnd, refl};
+ghost use Rattle.ql_edge.specs.Cause.{IsCaused};
+ghost use Rattle.ql_edge.specs.Told.{with_shown, with_warned};
+ghost use Rattle.ql_edge.specs.declared.fault.DeviceFault.TheVariants as device;
 ghost use Rattle.std.proofs.Common.{◌∙◌};
 
 use crate::{Bytes, DeviceFault, Machine, NoMemory, Numbers, Shows};
@@ -116,6 +119,8 @@ fn count_call(fails: &Numbers, calls: &mut u64, faults: &mut u64) -> Result<(), 
 }
 
 impl Shows for MemMachine {
+    ghost use Rattle.ql_edge.specs.MemMachine.{IsRefused, room_of, CountsCall};
+
     ghost told = { λ m. Some (m.shown, m.warned) };
 
     ghost faults = { λ m. m.faults };
@@ -130,7 +135,21 @@ impl Shows for MemMachine {
 
     ghost same_transitive = { λ x y z p q. (q.0 ∙ p.0, q.1 ∙ p.1, q.2 ∙ p.2, q.3 ∙ p.3, q.4 ∙ p.4) };
 
-    fn show(&mut self, piece: &[u8]) -> Result<u64, DeviceFault> {
+    fn show(&mut self, piece: &[u8]) -> Result<u64, DeviceFault>
+        ensures within { IfOk result (λ n. n ≤ length piece.now) }
+        ensures some { IfOk result (λ n. 0 < length piece.now → 0 < n) }
+        ensures shown { IfOk result (λ n. ⟦<MemMachine as Shows>⟧.told self.new ≡ with_shown (take n piece.now) (⟦<MemMachine as Shows>⟧.told self.old)) }
+        ensures refused { OnErr result (⟦<MemMachine as Shows>⟧.told self.new ≡ ⟦<MemMachine as Shows>⟧.told self.old) }
+        ensures same { ⟦<MemMachine as Shows>⟧.same self.old self.new }
+        ensures left { ⟦<MemMachine as Shows>⟧.left self.new ≡ ⟦<MemMachine as Shows>⟧.left self.old }
+        ensures fixed { ⟦<MemMachine as Shows>⟧.fixed self.new ≡ ⟦<MemMachine as Shows>⟧.fixed self.old }
+        ensures cause { IsCaused result (⟦<MemMachine as Shows>⟧.faults self.old) (⟦<MemMachine as Shows>⟧.faults self.new) }
+
+        // What the plan says.
+        ensures counts { CountsCall self.old self.new }
+        ensures planned { IfOk result (λ n. ¬ IsRefused self.old × (n ≡ room_of self.old (length piece.now))) }
+        ensures fails { result ≡ Err device.Failed → IsRefused self.old ⊎ ((0 < length piece.now) × (room_of self.old (length piece.now) ≡ 0)) }
+    {
         count_call(&self.plan.fails, &mut self.calls, &mut self.faults)?;
         let mut room = piece.len();
         if let Some(total) = self.plan.show_total {
@@ -144,7 +163,21 @@ impl Shows for MemMachine {
         Ok(room as u64)
     }
 
-    fn warn(&mut self, piece: &[u8]) -> Result<u64, DeviceFault> {
+    fn warn(&mut self, piece: &[u8]) -> Result<u64, DeviceFault>
+        ensures within { IfOk result (λ n. n ≤ length piece.now) }
+        ensures some { IfOk result (λ n. 0 < length piece.now → 0 < n) }
+        ensures warned { IfOk result (λ n. ⟦<MemMachine as Shows>⟧.told self.new ≡ with_warned (take n piece.now) (⟦<MemMachine as Shows>⟧.told self.old)) }
+        ensures refused { OnErr result (⟦<MemMachine as Shows>⟧.told self.new ≡ ⟦<MemMachine as Shows>⟧.told self.old) }
+        ensures same { ⟦<MemMachine as Shows>⟧.same self.old self.new }
+        ensures left { ⟦<MemMachine as Shows>⟧.left self.new ≡ ⟦<MemMachine as Shows>⟧.left self.old }
+        ensures fixed { ⟦<MemMachine as Shows>⟧.fixed self.new ≡ ⟦<MemMachine as Shows>⟧.fixed self.old }
+        ensures cause { IsCaused result (⟦<MemMachine as Shows>⟧.faults self.old) (⟦<MemMachine as Shows>⟧.faults self.new) }
+
+        // What the plan says.
+        ensures counts { CountsCall self.old self.new }
+        ensures planned { IfOk result (λ n. ¬ IsRefused self.old × (n ≡ length piece.now)) }
+        ensures fails { result ≡ Err device.Failed → IsRefused self.old }
+    {
         count_call(&self.plan.fails, &mut self.calls, &mut self.faults)?;
         self.warned.extend(piece)?;
         Ok(piece.len() as u64)
@@ -152,7 +185,25 @@ impl Shows for MemMachine {
 }
 
 impl Machine for MemMachine {
-    fn read(&mut self, out: &mut [u8]) -> Result<u64, DeviceFault> {
+    ghost use Rattle.ql_edge.specs.MemMachine.{plan_of, IsRefused, CountsCall};
+
+    fn read(&mut self, out: &mut [u8]) -> Result<u64, DeviceFault>
+        requires { 0 < length out.old }
+        ensures within { IfOk result (λ n. n ≤ length out.old) }
+        ensures taken { IfOk result (λ n. IfSome (⟦<MemMachine as Shows>⟧.left self.old) (λ script. take n out.new ≡ take n script)) }
+        ensures front { IfOk result (λ n. IfSome (⟦<MemMachine as Shows>⟧.left self.old) (λ script. n ≤ length script)) }
+        ensures end { IfOk result (λ n. IfSome (⟦<MemMachine as Shows>⟧.left self.old) (λ script. (n ≡ 0) ↔ (script ≡ []))) }
+        ensures left { IfOk result (λ n. ⟦<MemMachine as Shows>⟧.left self.new ≡ option_map (drop n) (⟦<MemMachine as Shows>⟧.left self.old)) }
+        ensures refused { OnErr result (⟦<MemMachine as Shows>⟧.left self.new ≡ ⟦<MemMachine as Shows>⟧.left self.old) }
+        ensures told { ⟦<MemMachine as Shows>⟧.told self.new ≡ ⟦<MemMachine as Shows>⟧.told self.old }
+        ensures fixed { ⟦<MemMachine as Shows>⟧.fixed self.new ≡ ⟦<MemMachine as Shows>⟧.fixed self.old }
+        ensures cause { IsCaused result (⟦<MemMachine as Shows>⟧.faults self.old) (⟦<MemMachine as Shows>⟧.faults self.new) }
+
+        // What the plan says.
+        ensures counts { CountsCall self.old self.new }
+        ensures planned { IfOk result (λ n. ¬ IsRefused self.old × IfSome (⟦<MemMachine as Shows>⟧.left self.old) (λ script. n ≡ min (length out.old) (min (plan_of self.old).read_most (length script)))) }
+        ensures fails { result ≡ Err device.Failed → IsRefused self.old }
+    {
         count_call(&self.plan.fails, &mut self.calls, &mut self.faults)?;
         let left = &self.script.as_slice()[self.taken..];
         let most = out.len().min(self.plan.read_most as usize).min(left.len());

@@ -1,0 +1,11 @@
+//! Tests that cross crates, over a machine in memory.
+#![tactic(auto)]
+
+#[cfg(test)]
+mod grammar;
+#[cfg(test)]
+mod machine;
+#[cfg(test)]
+mod made;
+#[cfg(test)]
+mod script;

@@ -1,0 +1,201 @@
+ghost use Rattle.std.specs.Prelude.{◌<◌};
+
+use crate::made::{bytes, failing, sound};
+use ql_edge::{Bytes, MemMachine, NoMemory};
+use ql_shell::{ScriptFault, Status, code, run};
+use std::alloc::Global;
+use std::process::Abort;
+use std::test::Fail;
+
+const TWO_ROWS: &[u8] =
+    b"CREATE TABLE t (a int64); INSERT INTO t VALUES (1), (2); SELECT * FROM t;";
+
+/// A script, what it shows and warns, and the exit status.
+struct Row {
+    script: &'static [u8],
+    shown: &'static [u8],
+    warned: &'static [u8],
+    status: u8,
+}
+
+const ROWS: [Row; 6] = [
+    Row {
+        script: TWO_ROWS,
+        shown: b"1\n2\n",
+        warned: b"",
+        status: 0,
+    },
+    Row {
+        script: b"",
+        shown: b"",
+        warned: b"",
+        status: 0,
+    },
+    Row {
+        script: b"SELECT * FROM u;",
+        shown: b"",
+        warned: b"ql: statement 1: 1 NoTable u\n",
+        status: 1,
+    },
+    Row {
+        script: b"CREATE TABLE t (a int64); CREATE TABLE t (b int64);",
+        shown: b"",
+        warned: b"ql: statement 2: 4 Exists t\n",
+        status: 1,
+    },
+    Row {
+        script: b"CREATE TABLE t (a int64); INSERT INTO t VALUES (1, 2);",
+        shown: b"",
+        warned: b"ql: not yet\n",
+        status: 1,
+    },
+    Row {
+        script: b"SELECT 1;",
+        shown: b"",
+        warned: b"ql: not yet\n",
+        status: 1,
+    },
+];
+
+fn no_words(alloc: Global) -> Vec<String> {
+    Vec::new(alloc)
+}
+
+fn carry_out(rt: &(impl Abort + Alloc<A = Global>), row: &Row) -> Result<(), NoMemory> {
+    let machine = sound(rt.alloc(), row.script)?;
+    let (machine, status) = run(rt.alloc(), &no_words(rt.alloc()), machine);
+    assert_eq!(rt; machine.shown().as_slice(), row.shown);
+    assert_eq!(rt; machine.warned().as_slice(), row.warned);
+    assert_eq!(rt; code(&status), row.status);
+    Ok(())
+}
+
+#[test]
+fn carries_out_scripts(rt: HostRuntime) -> Result<(), Fail> {
+    for row in &ROWS {
+        carry_out(&rt, row)?;
+    }
+    Ok(())
+}
+
+#[test]
+fn refuses_words(rt: HostRuntime) -> Result<(), Fail> {
+    let words = vec![in rt.alloc(); String::from_str(rt.alloc(), "x")?]?;
+    let (machine, status) = run(rt.alloc(), &words, sound(rt.alloc(), TWO_ROWS)?);
+    assert!(rt; matches!(&status, Status::Usage { word: 1 }));
+    assert_eq!(rt; code(&status), 2);
+    assert_eq!(rt; machine.shown().len(), 0);
+    assert_eq!(rt;
+        machine.warned().as_slice(),
+        b"ql: usage, word 1\n".as_slice()
+    );
+    Ok(())
+}
+
+/// What is shown and warned, and the exit status, where these device calls fail.
+fn after(
+    alloc: Global,
+    calls: &[u64],
+    show_total: Option<u64>,
+) -> Result<(MemMachine, u8), NoMemory> {
+    let machine = failing(alloc, TWO_ROWS, calls, 1000, show_total)?;
+    let (machine, status) = run(alloc, &no_words(alloc), machine);
+    Ok((machine, code(&status)))
+}
+
+fn stops_at(rt: &(impl Abort + Alloc<A = Global>), call: u64) -> Result<(), NoMemory>
+    requires { call < 100 }
+{
+    let (machine, status) = after(rt.alloc(), &[call], None)?;
+    assert_eq!(rt; status, 3);
+    assert_eq!(rt; machine.shown().len(), 0);
+    assert_eq!(rt;
+        machine.warned().as_slice(),
+        b"ql: device fault\n".as_slice()
+    );
+    let (machine, status) = after(rt.alloc(), &[call, call + 1], None)?;
+    assert_eq!(rt; status, 3);
+    assert_eq!(rt; machine.warned().len(), 0);
+    assert_eq!(rt; machine.faults(), 2);
+    Ok(())
+}
+
+#[test]
+fn stops_at_a_fault(rt: HostRuntime) -> Result<(), Fail> {
+    for call in 0..3 {
+        stops_at(&rt, call)?;
+    }
+    let (machine, status) = after(rt.alloc(), &[3], None)?;
+    assert_eq!(rt; status, 0);
+    assert_eq!(rt; machine.shown().as_slice(), b"1\n2\n".as_slice());
+    Ok(())
+}
+
+#[test]
+fn shows_what_there_is_room_for(rt: HostRuntime) -> Result<(), Fail> {
+    let script = b"CREATE TABLE t (a int64); INSERT INTO t VALUES (1), (2), (3); SELECT * FROM t;";
+    let machine = failing(rt.alloc(), script, &[], 1000, Some(3))?;
+    let (machine, status) = run(rt.alloc(), &no_words(rt.alloc()), machine);
+    assert_eq!(rt; code(&status), 3);
+    assert_eq!(rt; machine.shown().as_slice(), b"1\n2".as_slice());
+    assert_eq!(rt;
+        machine.warned().as_slice(),
+        b"ql: device fault\n".as_slice()
+    );
+    Ok(())
+}
+
+#[test]
+fn keeps_its_status_where_the_line_fails(rt: HostRuntime) -> Result<(), Fail> {
+    let machine = failing(rt.alloc(), b"SELECT * FROM u", &[2], 1000, None)?;
+    let (machine, status) = run(rt.alloc(), &no_words(rt.alloc()), machine);
+    assert_eq!(rt; code(&status), 1);
+    assert_eq!(rt; machine.warned().len(), 0);
+    assert_eq!(rt; machine.faults(), 1);
+    Ok(())
+}
+
+/// A script that makes so many tables.
+fn tables(alloc: Global, count: u32) -> Result<Bytes, Fail> {
+    let mut script = Bytes::new(alloc);
+    for number in 0..count {
+        let line = format!(in alloc; "CREATE TABLE t{number} (a int64);\n")?;
+        script.extend(line.as_bytes())?;
+    }
+    Ok(script)
+}
+
+#[test]
+fn makes_4096_tables_at_most(rt: HostRuntime) -> Result<(), Fail> {
+    let most = tables(rt.alloc(), 4096)?;
+    let machine = failing(rt.alloc(), most.as_slice(), &[], 65536, None)?;
+    let (_, status) = run(rt.alloc(), &no_words(rt.alloc()), machine);
+    assert_eq!(rt; code(&status), 0);
+    let more = tables(rt.alloc(), 4097)?;
+    let machine = failing(rt.alloc(), more.as_slice(), &[], 65536, None)?;
+    let (machine, status) = run(rt.alloc(), &no_words(rt.alloc()), machine);
+    assert!(rt; matches!(&status, Status::Script(ScriptFault::NotYet)));
+    assert_eq!(rt; machine.warned().as_slice(), b"ql: not yet\n".as_slice());
+    Ok(())
+}
+
+#[test]
+fn shows_many_rows_in_order(rt: HostRuntime) -> Result<(), Fail> {
+    let mut script = bytes(
+        rt.alloc(),
+        b"CREATE TABLE t (a int64); INSERT INTO t VALUES (0)",
+    )?;
+    let mut want = bytes(rt.alloc(), b"0\n")?;
+    for number in 1..30000 {
+        let row = format!(in rt.alloc(); ",({number})")?;
+        script.extend(row.as_bytes())?;
+        let line = format!(in rt.alloc(); "{number}\n")?;
+        want.extend(line.as_bytes())?;
+    }
+    script.extend(b"; SELECT * FROM t;")?;
+    let machine = failing(rt.alloc(), script.as_slice(), &[], 65536, None)?;
+    let (machine, status) = run(rt.alloc(), &no_words(rt.alloc()), machine);
+    assert_eq!(rt; code(&status), 0);
+    assert_eq!(rt; machine.shown().as_slice(), want.as_slice());
+    Ok(())
+}
