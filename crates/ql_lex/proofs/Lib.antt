@@ -1,0 +1,14 @@
+pub mod CommentLemmas
+pub mod EndLemmas
+pub mod EscapeLemmas
+pub mod LongestLemmas
+pub mod MarkLemmas
+pub mod NumberLemmas
+pub mod OnceLemmas
+pub mod PieceLemmas
+pub mod PlaceLemmas
+pub mod RunLemmas
+pub mod StringLemmas
+pub mod TokenLemmas
+pub mod ValueLemmas
+pub mod WordLemmas

@@ -1,0 +1,12 @@
+pub mod Bytes
+pub mod Comments
+pub mod Escapes
+pub mod Fault
+pub mod Marks
+pub mod Meaning
+pub mod Numbers
+pub mod Pieces
+pub mod Runs
+pub mod Strings
+pub mod Tokens
+pub mod Words
