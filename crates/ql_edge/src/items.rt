@@ -1,4 +1,4 @@
-ghost use Rattle.std.specs.Prelude.{◌≡◌, [], ◌∷◌, ◌++◌, length, IfOk, OnOk, OnErr};
+ghost use Rattle.std.specs.Prelude.{◌≡◌, [], ◌∷◌, ◌++◌, length, take, IfOk, OnOk, OnErr};
 
 use crate::NoMemory;
 use std::alloc::Global;
@@ -68,6 +68,13 @@ impl<T: Drop> Items<T> {
     {
         self.items.push(item)?;
         Ok(())
+    }
+
+    /// Lets the items behind the first `len` go.
+    pub fn truncate(&mut self, len: usize)
+        ensures { self.new ≡ take len self.old }
+    {
+        self.items.truncate(len);
     }
 
     /// Lets the items go, and keeps the room.

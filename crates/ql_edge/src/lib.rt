@@ -1,6 +1,7 @@
 //! The outside world as the layers above see it, and the list types that every crate shares.
 #![tactic(auto)]
 
+mod boxed;
 mod fault;
 mod host;
 mod items;
@@ -9,6 +10,7 @@ mod memory;
 mod name;
 mod shows;
 
+pub use boxed::Boxed;
 pub use fault::{DeviceFault, NoMemory};
 pub use host::HostMachine;
 pub use items::{Bytes, Items, Names0, Numbers};

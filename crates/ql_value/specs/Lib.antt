@@ -1,2 +1,10 @@
+pub mod Arith
+pub mod ArithLaws
+pub mod Convert
+pub mod KindLaws
+pub mod Length
+pub mod Number
+pub mod Order
+pub mod OrderLaws
 pub mod Print
 pub mod Refusal

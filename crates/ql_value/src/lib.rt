@@ -1,10 +1,28 @@
-//! Values, what they print, and the refusals that a statement may meet.
+//! Values: their arithmetic, order, conversions, lengths and printing, and the refusals that a statement may meet.
 #![tactic(auto)]
 
+mod arithmetic;
+mod conversion;
+mod fault;
+mod laws;
+mod length;
+mod operator;
+mod order;
 mod print;
 mod refusal;
 mod value;
+mod wrapping;
 
+pub use arithmetic::arith;
+pub use conversion::{convert, fit};
+pub use fault::ValueFault;
+pub use laws::{arith_laws, kind_laws, order_laws};
+pub use length::{key_length, row_length};
+pub use operator::{BinOp, UnOp};
+pub use order::compare;
 pub use print::print_value;
 pub use refusal::{EXISTS, NO_TABLE, Refusal};
-pub use value::{Kind, Value};
+pub use value::{Kind, Value, Values, copy_value};
+
+#[cfg(test)]
+mod tests;

@@ -1,0 +1,5 @@
+pub mod ArithLaws
+pub mod KindLaws
+pub mod OrderLaws
+pub mod Residues
+pub mod Shown

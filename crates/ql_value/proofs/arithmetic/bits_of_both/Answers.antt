@@ -1,0 +1,5 @@
+use Rattle.ql_value.proofs.Residues.{read_back, wrapped_and}
+use Rattle.ql_value.proofs.arithmetic.bits_of_both.Goals as goal
+
+pub returns : goal.returns
+returns c = read_back _ _ _ c.wrap.type_inv c.wrap.ensures (wrapped_and c.args.kind c.args.a c.args.b c.ranges.a c.ranges.b)

@@ -1,0 +1,20 @@
+ghost use Rattle.ql_value.specs.ArithLaws.{ArithIsExact};
+ghost use Rattle.ql_value.specs.KindLaws.{KindLaws};
+ghost use Rattle.ql_value.specs.OrderLaws.{OrderLaws};
+
+/// `compare` is a total order, tells two values of one kind apart, and puts NULL first. The call does nothing.
+pub fn order_laws()
+    ensures { OrderLaws }
+{}
+
+/// What `arith` gives on numbers: the kind's only number that is equal to the exact result modulo 2 to the kind's
+/// width, quotients rounded toward zero, shifts rounded down, and bits one by one. The call does nothing.
+pub fn arith_laws()
+    ensures { ArithIsExact }
+{}
+
+/// `arith`, `convert` and `fit` give values of the kind that their operands or their argument name. The call does
+/// nothing.
+pub fn kind_laws()
+    ensures { KindLaws }
+{}
