@@ -37,5 +37,5 @@ pub fn failing(
 
 /// A machine with empty files on which nothing fails.
 pub fn sound(alloc: Global, script: &[u8]) -> Result<MemMachine, NoMemory> {
-    failing(alloc, script, &[], 7, None)
+    failing(alloc, script, &[], 1000, None)
 }

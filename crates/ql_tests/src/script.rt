@@ -2,7 +2,7 @@ ghost use Rattle.std.specs.Prelude.{◌<◌};
 
 use crate::made::{bytes, failing, sound};
 use ql_edge::{Bytes, MemMachine, NoMemory};
-use ql_shell::{ScriptFault, Status, code, run};
+use ql_shell::{Status, code, run};
 use std::alloc::Global;
 use std::process::Abort;
 use std::test::Fail;
@@ -57,16 +57,17 @@ const ROWS: [Row; 6] = [
     },
 ];
 
-fn no_words(alloc: Global) -> Vec<String> {
-    Vec::new(alloc)
+/// The machine after a run without words, and the exit status.
+fn after(alloc: Global, machine: MemMachine) -> (MemMachine, u8) {
+    let (machine, status) = run(alloc, &Vec::new(alloc), machine);
+    (machine, code(&status))
 }
 
 fn carry_out(rt: &(impl Abort + Alloc<A = Global>), row: &Row) -> Result<(), NoMemory> {
-    let machine = sound(rt.alloc(), row.script)?;
-    let (machine, status) = run(rt.alloc(), &no_words(rt.alloc()), machine);
+    let (machine, status) = after(rt.alloc(), sound(rt.alloc(), row.script)?);
     assert_eq!(rt; machine.shown().as_slice(), row.shown);
     assert_eq!(rt; machine.warned().as_slice(), row.warned);
-    assert_eq!(rt; code(&status), row.status);
+    assert_eq!(rt; status, row.status);
     Ok(())
 }
 
@@ -92,28 +93,22 @@ fn refuses_words(rt: HostRuntime) -> Result<(), Fail> {
     Ok(())
 }
 
-/// What is shown and warned, and the exit status, where these device calls fail.
-fn after(
-    alloc: Global,
-    calls: &[u64],
-    show_total: Option<u64>,
-) -> Result<(MemMachine, u8), NoMemory> {
-    let machine = failing(alloc, TWO_ROWS, calls, 1000, show_total)?;
-    let (machine, status) = run(alloc, &no_words(alloc), machine);
-    Ok((machine, code(&status)))
+/// The machine after a run of the two rows where these device calls fail, and the exit status.
+fn after_faults(alloc: Global, calls: &[u64]) -> Result<(MemMachine, u8), NoMemory> {
+    Ok(after(alloc, failing(alloc, TWO_ROWS, calls, 1000, None)?))
 }
 
 fn stops_at(rt: &(impl Abort + Alloc<A = Global>), call: u64) -> Result<(), NoMemory>
     requires { call < 100 }
 {
-    let (machine, status) = after(rt.alloc(), &[call], None)?;
+    let (machine, status) = after_faults(rt.alloc(), &[call])?;
     assert_eq!(rt; status, 3);
     assert_eq!(rt; machine.shown().len(), 0);
     assert_eq!(rt;
         machine.warned().as_slice(),
         b"ql: device fault\n".as_slice()
     );
-    let (machine, status) = after(rt.alloc(), &[call, call + 1], None)?;
+    let (machine, status) = after_faults(rt.alloc(), &[call, call + 1])?;
     assert_eq!(rt; status, 3);
     assert_eq!(rt; machine.warned().len(), 0);
     assert_eq!(rt; machine.faults(), 2);
@@ -125,7 +120,7 @@ fn stops_at_a_fault(rt: HostRuntime) -> Result<(), Fail> {
     for call in 0..3 {
         stops_at(&rt, call)?;
     }
-    let (machine, status) = after(rt.alloc(), &[3], None)?;
+    let (machine, status) = after_faults(rt.alloc(), &[3])?;
     assert_eq!(rt; status, 0);
     assert_eq!(rt; machine.shown().as_slice(), b"1\n2\n".as_slice());
     Ok(())
@@ -134,9 +129,8 @@ fn stops_at_a_fault(rt: HostRuntime) -> Result<(), Fail> {
 #[test]
 fn shows_what_there_is_room_for(rt: HostRuntime) -> Result<(), Fail> {
     let script = b"CREATE TABLE t (a int64); INSERT INTO t VALUES (1), (2), (3); SELECT * FROM t;";
-    let machine = failing(rt.alloc(), script, &[], 1000, Some(3))?;
-    let (machine, status) = run(rt.alloc(), &no_words(rt.alloc()), machine);
-    assert_eq!(rt; code(&status), 3);
+    let (machine, status) = after(rt.alloc(), failing(rt.alloc(), script, &[], 1000, Some(3))?);
+    assert_eq!(rt; status, 3);
     assert_eq!(rt; machine.shown().as_slice(), b"1\n2".as_slice());
     assert_eq!(rt;
         machine.warned().as_slice(),
@@ -148,8 +142,8 @@ fn shows_what_there_is_room_for(rt: HostRuntime) -> Result<(), Fail> {
 #[test]
 fn keeps_its_status_where_the_line_fails(rt: HostRuntime) -> Result<(), Fail> {
     let machine = failing(rt.alloc(), b"SELECT * FROM u", &[2], 1000, None)?;
-    let (machine, status) = run(rt.alloc(), &no_words(rt.alloc()), machine);
-    assert_eq!(rt; code(&status), 1);
+    let (machine, status) = after(rt.alloc(), machine);
+    assert_eq!(rt; status, 1);
     assert_eq!(rt; machine.warned().len(), 0);
     assert_eq!(rt; machine.faults(), 1);
     Ok(())
@@ -168,13 +162,11 @@ fn tables(alloc: Global, count: u32) -> Result<Bytes, Fail> {
 #[test]
 fn makes_4096_tables_at_most(rt: HostRuntime) -> Result<(), Fail> {
     let most = tables(rt.alloc(), 4096)?;
-    let machine = failing(rt.alloc(), most.as_slice(), &[], 65536, None)?;
-    let (_, status) = run(rt.alloc(), &no_words(rt.alloc()), machine);
-    assert_eq!(rt; code(&status), 0);
+    let (_, status) = after(rt.alloc(), sound(rt.alloc(), most.as_slice())?);
+    assert_eq!(rt; status, 0);
     let more = tables(rt.alloc(), 4097)?;
-    let machine = failing(rt.alloc(), more.as_slice(), &[], 65536, None)?;
-    let (machine, status) = run(rt.alloc(), &no_words(rt.alloc()), machine);
-    assert!(rt; matches!(&status, Status::Script(ScriptFault::NotYet)));
+    let (machine, status) = after(rt.alloc(), sound(rt.alloc(), more.as_slice())?);
+    assert_eq!(rt; status, 1);
     assert_eq!(rt; machine.warned().as_slice(), b"ql: not yet\n".as_slice());
     Ok(())
 }
@@ -193,9 +185,8 @@ fn shows_many_rows_in_order(rt: HostRuntime) -> Result<(), Fail> {
         want.extend(line.as_bytes())?;
     }
     script.extend(b"; SELECT * FROM t;")?;
-    let machine = failing(rt.alloc(), script.as_slice(), &[], 65536, None)?;
-    let (machine, status) = run(rt.alloc(), &no_words(rt.alloc()), machine);
-    assert_eq!(rt; code(&status), 0);
+    let (machine, status) = after(rt.alloc(), sound(rt.alloc(), script.as_slice())?);
+    assert_eq!(rt; status, 0);
     assert_eq!(rt; machine.shown().as_slice(), want.as_slice());
     Ok(())
 }
