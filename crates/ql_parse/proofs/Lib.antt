@@ -1,3 +1,5 @@
 pub mod Grammar
+pub mod GrammarExamples
+pub mod GrammarLaws
 pub mod Tests
 pub mod Runs

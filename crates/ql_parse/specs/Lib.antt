@@ -1,3 +1,9 @@
 pub mod Spellings
 pub mod Token
 pub mod First
+pub mod Lexemes
+pub mod Rules
+pub mod Readings
+pub mod Scripts
+pub mod Trees
+pub mod Statements

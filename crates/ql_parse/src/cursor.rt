@@ -95,10 +95,6 @@ impl<'a> Cursor<'a> {
         Cursor { alloc, rest: text }
     }
 
-    pub fn alloc(&self) -> Global {
-        self.alloc
-    }
-
     /// Takes the next token, or answers `None` at the end of the script.
     pub fn next(&mut self) -> Result<Option<Token>, NoMemory>
         ensures end { IfOk result (λ next. IfNone next ((self.old ≡ []) × (self.new ≡ []))) }

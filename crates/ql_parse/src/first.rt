@@ -187,7 +187,7 @@ fn rows(cursor: &mut Cursor<'_>, numbers: &mut Numbers) -> Result<(), FirstFault
 }
 
 /// Reads the rest of a statement behind INSERT, up to its end.
-fn insert(cursor: &mut Cursor<'_>) -> Result<FirstStatement, FirstFault>
+fn insert(alloc: Global, cursor: &mut Cursor<'_>) -> Result<FirstStatement, FirstFault>
     ensures ok { IfOk result (λ statement. Reads (token.Word Insert ∷ cursor.old) statement cursor.new) }
     ensures not_yet { result ≡ Err fault.NotYet → (statement : FirstStatement) (rest : List Token) → Reads (token.Word Insert ∷ cursor.old) statement rest → ⊥ }
 {
@@ -197,14 +197,18 @@ fn insert(cursor: &mut Cursor<'_>) -> Result<FirstStatement, FirstFault>
     mark(cursor, Mark::Open)?;
     let n = number(cursor)?;
     mark(cursor, Mark::Close)?;
-    let mut numbers = Numbers::new(cursor.alloc());
+    let mut numbers = Numbers::new(alloc);
     numbers.push(n)?;
     rows(cursor, &mut numbers)?;
     Ok(FirstStatement::Insert { table, numbers })
 }
 
 /// Reads what begins with this token: a statement up to its end, or a lone semicolon.
-fn statement(cursor: &mut Cursor<'_>, first: Token) -> Result<Option<FirstStatement>, FirstFault>
+fn statement(
+    alloc: Global,
+    cursor: &mut Cursor<'_>,
+    first: Token,
+) -> Result<Option<FirstStatement>, FirstFault>
     ensures empty { IfOk result (λ read. IfNone read ((first ≡ token.Punctuation Semicolon) × (cursor.new ≡ cursor.old))) }
     ensures read { IfOk result (λ read. IfSome read (λ s. Reads (first ∷ cursor.old) s cursor.new)) }
     ensures not_yet { result ≡ Err fault.NotYet → (ss : List FirstStatement) → AreStatements (first ∷ cursor.old) ss → ⊥ }
@@ -212,7 +216,7 @@ fn statement(cursor: &mut Cursor<'_>, first: Token) -> Result<Option<FirstStatem
     match first {
         Token::Punctuation(Mark::Semicolon) => Ok(None),
         Token::Word(Keyword::Create) => Ok(Some(create(cursor)?)),
-        Token::Word(Keyword::Insert) => Ok(Some(insert(cursor)?)),
+        Token::Word(Keyword::Insert) => Ok(Some(insert(alloc, cursor)?)),
         Token::Word(Keyword::Select) => Ok(Some(show(cursor)?)),
         _ => Err(FirstFault::NotYet),
     }
@@ -244,7 +248,7 @@ pub fn first_script(alloc: Global, source: &[u8]) -> Result<FirstStatements, Fir
     let mut found = FirstStatements::new(alloc);
     let mut tables = 0;
     'statements: while let Some(token) = cursor.next()? {
-        let Some(read) = statement(&mut cursor, token)? else {
+        let Some(read) = statement(alloc, &mut cursor, token)? else {
             continue;
         };
         tables = count_tables(tables, &read)?;

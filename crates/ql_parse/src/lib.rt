@@ -1,8 +1,19 @@
 //! From the bytes of a script to its statements.
 #![tactic(auto)]
 
+mod copy;
 mod cursor;
 mod first;
+mod statement;
+mod syntax;
 mod token;
 
+pub use copy::copy_expr;
 pub use first::{FirstFault, FirstStatement, FirstStatements, TABLE_LIMIT, first_script};
+pub use statement::{
+    Assign, Assigns, ColumnDef, ColumnDefs, ExprRows, Item, RowSource, Statement, Statements,
+};
+pub use syntax::{
+    Expr, Exprs, Field, Fields, FromSet, FromSets, Function, Join, Link, Links, Select, SetSource,
+    Side,
+};

@@ -18,7 +18,7 @@ pub use conversion::{convert, fit};
 pub use fault::ValueFault;
 pub use laws::{arith_laws, kind_laws, order_laws};
 pub use length::{key_length, row_length};
-pub use operator::{BinOp, UnOp};
+pub use operator::{BinOp, UnOp, UnOps};
 pub use order::compare;
 pub use print::print_value;
 pub use refusal::{EXISTS, NO_TABLE, Refusal};

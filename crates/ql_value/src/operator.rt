@@ -1,3 +1,5 @@
+use ql_edge::Items;
+
 /// An operator between two operands, from the level that binds most to the one that binds least.
 #[derive(Clone, Copy, Debug, PartialEq, Eq)]
 pub enum BinOp {
@@ -55,3 +57,6 @@ pub enum UnOp {
     /// `^`
     Flip,
 }
+
+/// Operators that stand before one operand, from left to right.
+pub type UnOps = Items<UnOp>;

@@ -1,0 +1,157 @@
+use ql_edge::{Boxed, Bytes, Items, Name};
+use ql_value::{BinOp, Kind, UnOps};
+
+/// A function that an expression calls.
+#[derive(Clone, Copy, Debug, PartialEq, Eq)]
+pub enum Function {
+    Id,
+    Len,
+    Contains,
+    HasPrefix,
+    HasSuffix,
+    Coalesce,
+    Count,
+    Sum,
+    Avg,
+    Min,
+    Max,
+}
+
+/// An expression as it is written. A part that stands alone in its place is that part.
+#[cycle(syntax)]
+#[derive(Drop)]
+pub enum Expr {
+    /// Parts between operators of one level, from left to right. There is at least one link.
+    Chain {
+        first: Boxed<Expr>,
+        rest: Links,
+    },
+    /// Operators before a part. There is at least one.
+    Unary {
+        ops: UnOps,
+        part: Boxed<Expr>,
+    },
+    Number(u64),
+    /// The bytes that a string means.
+    Text(Bytes),
+    Truth(bool),
+    Null,
+    Column {
+        table: Option<Name>,
+        column: Name,
+    },
+    /// A part in brackets.
+    Paren(Boxed<Expr>),
+    /// A call. With `star` its part is `*`, and there are no parts.
+    Call {
+        function: Function,
+        star: bool,
+        parts: Exprs,
+    },
+    Convert {
+        kind: Kind,
+        part: Boxed<Expr>,
+    },
+    IsIn {
+        part: Boxed<Expr>,
+        not: bool,
+        list: Exprs,
+    },
+    IsInSelect {
+        part: Boxed<Expr>,
+        not: bool,
+        query: Boxed<Select>,
+    },
+    IsBetween {
+        part: Boxed<Expr>,
+        not: bool,
+        low: Boxed<Expr>,
+        high: Boxed<Expr>,
+    },
+    IsNull {
+        part: Boxed<Expr>,
+        not: bool,
+    },
+}
+
+/// An operator of a chain, and the part behind it.
+#[cycle(syntax)]
+#[derive(Drop)]
+pub struct Link {
+    pub op: BinOp,
+    pub part: Expr,
+}
+
+/// Expressions in the order of the text.
+pub type Exprs = Items<Expr>;
+
+/// What follows the first part of a chain.
+pub type Links = Items<Link>;
+
+/// A SELECT. One with no fields is `SELECT *`.
+#[cycle(syntax)]
+#[derive(Drop)]
+pub struct Select {
+    pub distinct: bool,
+    pub fields: Fields,
+    /// The record sets behind FROM, none where it is left out.
+    pub sets: FromSets,
+    pub join: Option<Join>,
+    /// The condition behind WHERE.
+    pub filter: Option<Expr>,
+    /// The columns behind GROUP BY.
+    pub groups: Exprs,
+    /// The expressions behind ORDER BY.
+    pub keys: Exprs,
+    /// Whether DESC stands behind them.
+    pub descending: bool,
+    pub limit: Option<Expr>,
+    pub offset: Option<Expr>,
+}
+
+/// What a SELECT shows in one column, and the name that AS gives it.
+#[cycle(syntax)]
+#[derive(Drop)]
+pub struct Field {
+    pub expr: Expr,
+    pub alias: Option<Name>,
+}
+
+/// The fields of a SELECT.
+pub type Fields = Items<Field>;
+
+/// What a record set is made of.
+#[cycle(syntax)]
+#[derive(Drop)]
+pub enum SetSource {
+    Table(Name),
+    Query(Boxed<Select>),
+}
+
+/// A record set, and the name that AS gives it.
+#[cycle(syntax)]
+#[derive(Drop)]
+pub struct FromSet {
+    pub source: SetSource,
+    pub alias: Option<Name>,
+}
+
+/// The record sets of a FROM.
+pub type FromSets = Items<FromSet>;
+
+/// Which sides of an outer join keep the rows that find no partner.
+#[derive(Clone, Copy, Debug, PartialEq, Eq)]
+pub enum Side {
+    Left,
+    Right,
+    Full,
+}
+
+/// An outer join with a further record set.
+#[cycle(syntax)]
+#[derive(Drop)]
+pub struct Join {
+    pub side: Side,
+    pub set: FromSet,
+    pub on: Expr,
+}
