@@ -1,3 +1,11 @@
+pub mod CallLemmas
+pub mod PrimaryLemmas
+pub mod Sequences
+pub mod BracketLemmas
+pub mod ChainLemmas
+pub mod Loops
+pub mod StepLemmas
+pub mod CursorLemmas
 pub mod Grammar
 pub mod GrammarExamples
 pub mod GrammarLaws

@@ -1,5 +1,5 @@
 -- Tokens with their spelling, and what a place of the grammar asks of one token.
-use Rattle.std.specs.Prelude.{ℕ, Bool, true, false, ◌&&◌, ◌||◌, List, [], ◌∷◌, codes}
+use Rattle.std.specs.Prelude.{ℕ, Bool, true, false, ◌&&◌, ◌||◌, List, [], ◌∷◌, codes, map, Option, Some, None}
 use Rattle.std.specs.Str.{bytes_eq}
 use denote.Enum.Bare.{sameb}
 use Rattle.ql_lex.specs.contracts.marks.Mark as mark
@@ -8,8 +8,10 @@ use Rattle.ql_lex.specs.declared.marks.Mark.{Mark}
 use Rattle.ql_lex.specs.declared.marks.Mark.TheVariants as m
 use Rattle.ql_lex.specs.declared.words.Word.{Word}
 use Rattle.ql_lex.specs.declared.words.Word.TheVariants as w
+use Rattle.ql_lex.specs.declared.token.Token.{Token}
 use Rattle.ql_lex.specs.declared.token.TokenKind.{TokenKind}
 use Rattle.ql_lex.specs.declared.token.TokenKind.TheVariants as kind
+use Rattle.ql_lex.specs.Tokens.{spelling_of}
 
 -- a token: what it is, and the bytes that it stands on
 pub record Lexeme : Type 0 where
@@ -132,3 +134,21 @@ sees test (t ∷ ts) = test t
 abbrev pub sees_two : (Lexeme → Bool) → (Lexeme → Bool) → List Lexeme → Bool
 sees_two test next [] = false
 sees_two test next (t ∷ ts) = test t && sees next ts
+
+-- a token of a source, with the bytes that it stands on
+abbrev pub lexeme : List ℕ → Token → Lexeme
+lexeme source token = record { kind = token.kind; text = spelling_of source token }
+
+-- the tokens of a source, with the bytes that they stand on
+abbrev pub lexemes : List ℕ → List Token → List Lexeme
+lexemes source tokens = map (lexeme source) tokens
+
+-- what the next token is
+abbrev pub kind_at : List Lexeme → Option TokenKind
+kind_at [] = None
+kind_at (t ∷ ts) = Some t.kind
+
+-- the bytes of the next token
+abbrev pub text_at : List Lexeme → List ℕ
+text_at [] = []
+text_at (t ∷ ts) = t.text

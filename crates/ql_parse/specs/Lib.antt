@@ -1,7 +1,15 @@
 pub mod Spellings
 pub mod Token
 pub mod First
+pub mod Enclosed
+pub mod Functions
 pub mod Lexemes
+pub mod Lists
+pub mod Members
+pub mod Nests
+pub mod Levels
+pub mod Parses
+pub mod Predicates
 pub mod Rules
 pub mod Readings
 pub mod Scripts

@@ -4,6 +4,7 @@
 mod copy;
 mod cursor;
 mod first;
+mod parse;
 mod statement;
 mod syntax;
 mod token;

@@ -1,0 +1,19 @@
+use Rattle.std.proofs.Common.{◌∙◌}
+use Rattle.ql_parse.specs.Rules as rule
+use Rattle.ql_parse.specs.Readings.{pair, node, both, by_rule}
+use Rattle.ql_parse.proofs.StepLemmas.{exits}
+use Rattle.ql_parse.proofs.Sequences.{fails_the, fails_first, fails_second}
+use Rattle.ql_parse.proofs.ChainLemmas.{same_chain}
+use Rattle.ql_parse.proofs.parse.parser.Parser.sum.Goals as goal
+
+pub returns-in_err-first : goal.returns-in_err-first
+returns-in_err-first g c = exits _ _ _ _ c.from_residual.ensures.1 (fails_the rule.sum (fails_first c.in_err-first.ensures))
+
+pub returns-in_err-rest : goal.returns-in_err-rest
+returns-in_err-rest g c = exits _ _ _ _ c.from_residual-in_err-rest.ensures.1 (fails_the rule.sum (fails_second c.in_ok-first.ensures c.in_err-rest.ensures))
+
+pub returns : goal.returns
+returns g c =
+    let first = c.in_ok-first.ensures in
+    let rest = c.in_ok-rest.ensures in
+    record { parse = node rule.sum (pair first.parse rest.parse); reads = by_rule (both first.reads rest.reads); means = c.in_ok-chained.ensures ∙ same_chain first.means rest.means }

@@ -1,0 +1,53 @@
+-- The levels of operators, by one definition for all.
+use Rattle.std.specs.Prelude.{Bool, List, [], ◌∷◌}
+use Rattle.ql_lex.specs.declared.token.TokenKind.{TokenKind}
+use Rattle.ql_value.specs.declared.operator.BinOp.{BinOp}
+use Rattle.ql_value.specs.declared.operator.BinOp.TheVariants as bin
+use Rattle.ql_value.specs.declared.operator.UnOp.{UnOp}
+use Rattle.ql_value.specs.declared.operator.UnOp.TheVariants as un
+use Rattle.ql_value.specs.declared.value.Kind.{Kind}
+use Rattle.ql_value.specs.declared.value.Kind.TheVariants as k
+use Rattle.ql_parse.specs.declared.parse.level.Level.{Level}
+use Rattle.ql_parse.specs.declared.parse.level.Level.TheVariants as l
+use Rattle.ql_parse.specs.Lexemes.{Lexeme, is_either, is_both, is_comparison, is_sum, is_product}
+use Rattle.ql_parse.specs.Rules.{Production, Rule, token, ◌then◌, many, the, term, factor, sum, product, unary}
+use Rattle.ql_parse.specs.Trees.{bin_op, un_op, kind_named}
+
+-- a token is an operator of a level
+abbrev pub is_op : Level → Lexeme → Bool
+is_op l.Either t = is_either t
+is_op l.Both t = is_both t
+is_op l.Comparison t = is_comparison t
+is_op l.Sum t = is_sum t
+is_op l.Product t = is_product t
+
+-- the parts between the operators of a level
+abbrev pub part_of : Level → Production
+part_of l.Either = term
+part_of l.Both = factor
+part_of l.Comparison = sum
+part_of l.Sum = product
+part_of l.Product = unary
+
+-- what stands behind the first part of a chain
+abbrev pub links : Level → Rule
+links level = many (token (is_op level) then the (part_of level))
+
+-- a token of a kind, without its spelling
+abbrev pub token_of : TokenKind → Lexeme
+token_of k = record { kind = k; text = [] }
+
+-- the operator that the next token is
+abbrev pub next_op : List Lexeme → BinOp
+next_op [] = bin.AndNot
+next_op (t ∷ ts) = bin_op t.kind
+
+-- the kind of values that the next token names
+abbrev pub kind_of_next : List Lexeme → Kind
+kind_of_next [] = k.Uint64
+kind_of_next (t ∷ ts) = kind_named t.kind
+
+-- the operator before a part that the next token is
+abbrev pub next_un_op : List Lexeme → UnOp
+next_un_op [] = un.Flip
+next_un_op (t ∷ ts) = un_op t.kind

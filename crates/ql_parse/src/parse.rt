@@ -1,0 +1,13 @@
+mod brackets;
+mod chain;
+mod cursor;
+mod fault;
+mod functions;
+mod kinds;
+mod level;
+mod list;
+mod members;
+mod parser;
+mod predicate;
+mod primary;
+mod steps;
