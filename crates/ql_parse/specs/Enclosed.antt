@@ -7,22 +7,17 @@ use Rattle.ql_parse.specs.declared.syntax.Expr.TheVariants as e
 use Rattle.ql_parse.specs.declared.syntax.Function.{Function}
 use Rattle.ql_parse.specs.declared.syntax.Function.TheVariants as f
 use Rattle.ql_parse.specs.declared.syntax.Select.{Select}
-use Rattle.ql_parse.specs.Members.{members_of}
+use Rattle.ql_parse.specs.Members.{members_of, subselect_of}
 use Rattle.ql_parse.specs.Nests.{PartOf}
-use Rattle.ql_parse.specs.Readings.{Parse, pair, left, present}
+use Rattle.ql_parse.specs.Readings.{Parse, left, present}
 use Rattle.ql_parse.specs.Rules.{the, expr, list, maybe, mark, ◌or◌}
 use Rattle.ql_parse.specs.Rules as rule
-use Rattle.ql_parse.specs.Trees.{expr_of, exprs_of, select_of}
+use Rattle.ql_parse.specs.Trees.{expr_of, exprs_of}
 
 -- whether `*` stands in a call of count, and the parts
 abbrev pub count_parts_of : Parse → Bool × List Expr
 count_parts_of (present (left a)) = (true, [])
 count_parts_of a = (false, exprs_of a)
-
--- the SELECT of a subselect
-abbrev pub subselect_of : Parse → Select
-subselect_of (pair q _) = select_of q
-subselect_of a = select_of a
 
 -- a call of count
 abbrev pub count_call_of : Parse → Expr

@@ -2,11 +2,17 @@
 use Rattle.std.specs.Prelude.{[]}
 use Rattle.ql_parse.specs.declared.parse.members.Members.{Members}
 use Rattle.ql_parse.specs.declared.parse.members.Members.TheVariants as m
+use Rattle.ql_parse.specs.declared.syntax.Select.{Select}
 use Rattle.ql_parse.specs.Readings.{Parse, pair, left, right}
 use Rattle.ql_parse.specs.Trees.{exprs_of, select_of}
+
+-- the SELECT of a subselect
+abbrev pub subselect_of : Parse → Select
+subselect_of (pair q _) = select_of q
+subselect_of a = select_of a
 
 -- expressions, or a SELECT
 abbrev pub members_of : Parse → Members
 members_of (left a) = m.Listed (exprs_of a)
-members_of (right (pair q _)) = m.Query (select_of q)
+members_of (right a) = m.Query (subselect_of a)
 members_of _ = m.Listed []

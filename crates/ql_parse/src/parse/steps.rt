@@ -100,6 +100,7 @@ pub fn eat_mark(cursor: &mut Cursor<'_>, mark: Mark) -> bool
     ensures found { result ≡ spec.sees (spec.is_mark mark) cursor.old }
     ensures taken { result ≡ true → cursor.new ≡ drop 1 cursor.old }
     ensures kept { result ≡ false → cursor.new ≡ cursor.old }
+    ensures read { (n : ℕ) → Gives n (rule.maybe (rule.mark mark)) is_present cursor.old result cursor.new }
 {
     let found = sees_mark(cursor, mark);
     if found {
