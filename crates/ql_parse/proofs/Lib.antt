@@ -1,3 +1,4 @@
+pub mod SelectLemmas
 pub mod PredicateLemmas
 pub mod CallLemmas
 pub mod PrimaryLemmas

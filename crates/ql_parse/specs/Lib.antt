@@ -13,5 +13,6 @@ pub mod Predicates
 pub mod Rules
 pub mod Readings
 pub mod Scripts
+pub mod Selects
 pub mod Trees
 pub mod Statements

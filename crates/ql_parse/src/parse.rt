@@ -1,7 +1,9 @@
 mod brackets;
 mod chain;
+mod clause;
 mod cursor;
 mod fault;
+mod from;
 mod functions;
 mod kinds;
 mod level;
@@ -10,4 +12,5 @@ mod members;
 mod parser;
 mod predicate;
 mod primary;
+mod select;
 mod steps;
