@@ -3,3 +3,5 @@ pub mod GrammarExamples
 pub mod GrammarLaws
 pub mod Tests
 pub mod Runs
+pub mod PrintingExamples
+pub mod PrintingEquations

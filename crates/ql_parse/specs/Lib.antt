@@ -7,3 +7,6 @@ pub mod Readings
 pub mod Scripts
 pub mod Trees
 pub mod Statements
+pub mod Ink
+pub mod Printing
+pub mod StatementPrinting
