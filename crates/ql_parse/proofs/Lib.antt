@@ -5,3 +5,7 @@ pub mod Tests
 pub mod Runs
 pub mod PrintingExamples
 pub mod PrintingEquations
+pub mod PlainEquations
+pub mod BackTokens
+pub mod BackForms
+pub mod BackSelectForm

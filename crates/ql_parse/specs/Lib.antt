@@ -10,3 +10,4 @@ pub mod Statements
 pub mod Ink
 pub mod Printing
 pub mod StatementPrinting
+pub mod ReadsBack
