@@ -9,3 +9,6 @@ pub mod PlainEquations
 pub mod BackTokens
 pub mod BackForms
 pub mod BackSelectForm
+pub mod BackOps
+pub mod BackParts
+pub mod BackLevels
