@@ -12,3 +12,6 @@ pub mod BackSelectForm
 pub mod BackOps
 pub mod BackParts
 pub mod BackLevels
+pub mod BackLists
+pub mod BackCalls
+pub mod BackPrimary
