@@ -74,7 +74,7 @@ more_again e f c each (r.member {a = a} {b = b} d g i j) k rest h =
     rw (f a b) (one_more f c (each _ _ _ i k.0 _ more.after) more)
 
 -- what reads as an expression begins one
-primary_begins : {n : ℕ} {ts rest : List Lexeme} {a : Parse} → Reads n (the primary) ts a rest → begins_primary ts ≡ true
+pub primary_begins : {n : ℕ} {ts rest : List Lexeme} {a : Parse} → Reads n (the primary) ts a rest → begins_primary ts ≡ true
 primary_begins (r.by_rule (r.first e h)) = rw e refl
 primary_begins (r.by_rule (r.second {ts = ts} f e h)) = or_right (sees is_number ts) _ e
 
@@ -120,6 +120,17 @@ expr_no_distinct (t ∷ ts) h = (begins_other t.kind t.text ts h).distinct
 pub expr_no_not : (ts : List Lexeme) → begins_expr ts ≡ true → sees (is_word w.Not) ts ≡ false
 expr_no_not [] h = refl
 expr_no_not (t ∷ ts) h = (begins_other t.kind t.text ts h).not
+
+prefix_other : (k : TokenKind) (text : List ℕ) (ts : List Lexeme) → begins_primary (record { kind = k; text = text } ∷ ts) ≡ true → is_prefix (record { kind = k; text = text }) ≡ false
+prefix_other (kind.Mark m.Plus) text ts h = absurd (cc)
+prefix_other (kind.Mark m.Minus) text ts h = absurd (cc)
+prefix_other (kind.Mark m.Bang) text ts h = absurd (cc)
+prefix_other (kind.Mark m.Caret) text ts h = absurd (cc)
+prefix_other _ text ts h = refl
+
+pub primary_no_prefix : (ts : List Lexeme) → begins_primary ts ≡ true → sees is_prefix ts ≡ false
+primary_no_prefix [] h = refl
+primary_no_prefix (t ∷ ts) h = prefix_other t.kind t.text ts h
 
 -- an expression as a member of a list
 pub expr_item : {n : ℕ} {x : Expr} {rest : List Lexeme} → Back n expr x rest → BackItem n (the expr) expr_before expr_of plain_expr x rest

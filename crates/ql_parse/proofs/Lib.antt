@@ -15,3 +15,5 @@ pub mod BackLevels
 pub mod BackLists
 pub mod BackCalls
 pub mod BackPrimary
+pub mod BackTests
+pub mod BackSelectParts
