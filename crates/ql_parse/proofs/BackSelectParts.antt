@@ -68,6 +68,12 @@ shown_in_keys h = shown_in_from (avoids_rest (avoids_rest (avoids_rest (avoids_r
 pub expr_in_shown : {ts : List Lexeme} → Avoids after_shown ts → Avoids after_expr ts
 expr_in_shown h = avoids_rest (avoids_rest h)
 
+pub avoids_both : {test : Lexeme → Bool} {tests : List (Lexeme → Bool)} {ts : List Lexeme} → sees test ts ≡ false → Avoids tests ts → Avoids (test ∷ tests) ts
+avoids_both f h = record { none = rw (f, h.none) refl }
+
+pub comma_in_shown : {ts : List Lexeme} → Avoids after_shown ts → Avoids (is_comma ∷ after_expr) ts
+comma_in_shown h = avoids_both (avoids_first h) (expr_in_shown h)
+
 -- a keyword and the expression behind it
 pub record BackOption (n : ℕ) (keyword : Word) (part : Option Expr) (rest : List Lexeme) : Type 0 where
   pub parse : Parse
@@ -84,10 +90,14 @@ some_option keyword h b = record {
   tree = ap Some b.tree;
 }
 
-pub option_after : {keyword : Word} {test : Lexeme → Bool} {tests : List (Lexeme → Bool)} {rest : List Lexeme} (part : Option Expr) →
+part_after : (keyword : Word) {test : Lexeme → Bool} {tests : List (Lexeme → Bool)} {rest : List Lexeme} (part : Option Expr) →
     Avoids (test ∷ tests) rest → ((ts : List Lexeme) → Avoids tests (word_token keyword ∷ ts)) → Avoids tests (behind_before keyword part rest)
-option_after None h f = avoids_rest h
-option_after (Some part) h f = f _
+part_after keyword None h f = avoids_rest h
+part_after keyword (Some part) h f = f _
+
+pub option_after : {n : ℕ} {keyword : Word} {test : Lexeme → Bool} {tests : List (Lexeme → Bool)} {part : Option Expr} {rest : List Lexeme} → BackOption n keyword part rest →
+    Avoids (test ∷ tests) rest → ((ts : List Lexeme) → Avoids tests (word_token keyword ∷ ts)) → Avoids tests (behind_before keyword part rest)
+option_after {keyword = keyword} {part = part} b h f = part_after keyword part h f
 
 -- the name behind AS
 pub record BackAlias (n : ℕ) (alias : Option (List ℕ)) (rest : List Lexeme) : Type 0 where
@@ -253,6 +263,7 @@ pub record BackGroups (n : ℕ) (groups : List Expr) (rest : List Lexeme) : Type
   pub parse : Parse
   pub reads : Reads n (maybe (word w.Group then word w.By then list (the ref))) (groups_before groups rest) parse rest
   pub tree : behind_by parse ≡ map plain_expr groups
+  pub after : Avoids after_filter (groups_before groups rest)
 
 -- the direction of ORDER BY
 pub record BackDirection (n : ℕ) (descending : Bool) (rest : List Lexeme) : Type 0 where

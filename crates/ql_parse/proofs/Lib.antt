@@ -17,3 +17,8 @@ pub mod BackCalls
 pub mod BackPrimary
 pub mod BackTests
 pub mod BackSelectParts
+pub mod BackGroups
+pub mod BackPrimaries
+pub mod BackChains
+pub mod BackSelects
+pub mod Back
