@@ -73,6 +73,16 @@ more_again e f c each (r.member {a = a} {b = b} d g i j) k rest h =
     let more = more_again e f c each j k.1 rest h in
     rw (f a b) (one_more f c (each _ _ _ i k.0 _ more.after) more)
 
+-- So is a list.
+pub list_again : {A : Type 0} {n : ℕ} {x : Rule} {print : A → List Lexeme → List Lexeme} {meaning : Parse → A} {meanings : Parse → List A} {plain : A → A} {inner : List (Lexeme → Bool)} →
+    meanings stop ≡ [] → ((a b : Parse) → ◌≡◌ {A = List A} (meanings (cell a b)) (meaning a ∷ meanings b)) → ((ts : List Lexeme) → Avoids inner (mark_token m.Comma ∷ ts)) →
+    ((ts r : List Lexeme) (a : Parse) → Reads n x ts a r → Kept a → (rest : List Lexeme) → Avoids inner rest → BackItem n x print meaning plain (meaning a) rest) →
+    {ts mid r : List Lexeme} {a b : Parse} → Reads n x ts a mid → Reads n (further x) mid b r → Kept a → Kept b → (rest : List Lexeme) → Avoids (is_comma ∷ inner) rest →
+    BackList n x print meaning meanings plain (meaning a ∷ meanings b) rest
+list_again {meaning = meaning} e f c each h k kept others rest after =
+    let more = more_again {meaning = meaning} e f c each k others rest after in
+    listed (each _ _ _ h kept _ more.after) more
+
 -- what reads as an expression begins one
 pub primary_begins : {n : ℕ} {ts rest : List Lexeme} {a : Parse} → Reads n (the primary) ts a rest → begins_primary ts ≡ true
 primary_begins (r.by_rule (r.first e h)) = rw e refl

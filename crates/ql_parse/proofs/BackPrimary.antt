@@ -95,7 +95,7 @@ other_reads : {n : ℕ} {bytes : List ℕ} {ts rest : List Lexeme} {a : Parse} �
 other_reads e h = r.by_rule (r.second refl e (r.second refl e (r.second refl e (r.second refl e (r.second refl e h)))))
 
 -- a name that does not stand before a bracket is no call
-and_false : (a b : Bool) → b ≡ false → (a && b) ≡ false
+pub and_false : (a b : Bool) → b ≡ false → (a && b) ≡ false
 and_false true b h = h
 and_false false b h = refl
 

@@ -22,3 +22,5 @@ pub mod BackPrimaries
 pub mod BackChains
 pub mod BackSelects
 pub mod Back
+pub mod BackStatementForms
+pub mod BackColumns
