@@ -62,7 +62,7 @@ begins_none {ts = ts} h =
 expr_in_rule : {ts : List Lexeme} → Avoids after_rule ts → Avoids after_expr ts
 expr_in_rule h = avoids_rest (avoids_rest (avoids_rest (avoids_rest (avoids_rest (avoids_rest (avoids_rest (avoids_rest (avoids_rest (avoids_rest h)))))))))
 
-option_same : (part : Option Expr) → option_map plain_expr part ≡ plain_option part
+pub option_same : (part : Option Expr) → option_map plain_expr part ≡ plain_option part
 option_same None = refl
 option_same (Some part) = refl
 

@@ -106,7 +106,7 @@ ref_reads {bytes = bytes} {ts = ts} f h =
     let function : (is_function (name_token bytes) && sees is_open ts) ≡ false = and_false (is_function (name_token bytes)) _ f in
     let reads_ref = r.first {x = the ref} {y = bracketed (the expr) or token is_kind then bracketed (the expr)} refl h in
     let begins : enters (before is_function is_open then bracketed (maybe (list (the expr))) or the ref or bracketed (the expr) or token is_kind then bracketed (the expr)) (name_token bytes ∷ ts) ≡ true =
-        or_right (is_function (name_token bytes) && sees is_open ts) _ refl in
+    or_right (is_function (name_token bytes) && sees is_open ts) _ refl in
     other_reads (or_right (is_count (name_token bytes) && sees is_open ts) _ begins) (r.second count begins (r.second function refl reads_ref))
 
 -- a column, up to tokens that do not go on with it
@@ -201,7 +201,7 @@ function_reads {ts = ts} function c h =
     let count : (is_count name && true) ≡ false = rw c.no_count refl in
     let called : (is_function name && true) ≡ true = rw c.called refl in
     let begins : enters (before is_function is_open then bracketed (maybe (list (the expr))) or the ref or bracketed (the expr) or token is_kind then bracketed (the expr)) (name ∷ mark_token m.Open ∷ ts) ≡ true =
-        or_right (is_function name && true) _ refl in
+    or_right (is_function name && true) _ refl in
     other_reads (or_right (is_count name && true) _ begins) (r.second count begins (r.first called (r.both (r.takes_before c.called refl) h)))
 
 pub call_again : {n : ℕ} (function : Function) (rest : List Lexeme) → IsCalled function → Back (suc n) primary (e.Call function false []) rest

@@ -102,7 +102,7 @@ among_reads true f e h = r.entered refl (r.by_rule (r.first refl (r.both (r.ente
 among_reads {ts = ts} false f e h =
     let begins = or_right (sees (is_word w.Not) ts) (sees (is_word w.In) ts || sees (is_word w.Between) ts) e in
     r.entered (or_left (sees (is_word w.Not) ts || (sees (is_word w.In) ts || sees (is_word w.Between) ts)) (sees (is_word w.Is) ts) begins)
-        (r.by_rule (r.first begins (r.both (r.left_out f) h)))
+    (r.by_rule (r.first begins (r.both (r.left_out f) h)))
 
 not_after : (negated : Bool) (ts : List Lexeme) → Avoids after_compared ts → Avoids after_compared (not_before negated ts)
 not_after true ts h = record { none = refl }

@@ -24,3 +24,5 @@ pub mod BackSelects
 pub mod Back
 pub mod BackStatementForms
 pub mod BackColumns
+pub mod BackStatements
+pub mod BackScripts
