@@ -26,18 +26,22 @@ pub record IsKept (t : Lexeme) : Type 0 where
   pub number : is_number t ≡ true → number_value (decimal (number_value t.text)) ≡ number_value t.text
   pub text : text_value (quoted false (text_value t.text)) ≡ text_value t.text
 
--- so does every literal of a reading
+-- a fact of each token that a reading keeps
+abbrev pub Each : (Lexeme → Type 0) → Parse → Type 0
+Each P (leaf t) = P t
+Each P (pair a b) = Each P a × Each P b
+Each P (left a) = Each P a
+Each P (right a) = Each P a
+Each P absent = Unit {0}
+Each P (present a) = Each P a
+Each P stop = Unit {0}
+Each P (cell a b) = Each P a × Each P b
+Each P (group a) = Each P a
+Each P (node p a) = Each P a
+
+-- every literal of a reading means the same once it is printed
 abbrev pub Kept : Parse → Type 0
-Kept (leaf t) = IsKept t
-Kept (pair a b) = Kept a × Kept b
-Kept (left a) = Kept a
-Kept (right a) = Kept a
-Kept absent = Unit {0}
-Kept (present a) = Kept a
-Kept stop = Unit {0}
-Kept (cell a b) = Kept a × Kept b
-Kept (group a) = Kept a
-Kept (node p a) = Kept a
+Kept a = Each IsKept a
 
 -- the next token passes none of the tests
 abbrev pub none_of : List (Lexeme → Bool) → List Lexeme → Bool
