@@ -18,6 +18,14 @@ pub record Lexeme : Type 0 where
   pub kind : TokenKind
   pub text : List ℕ
 
+-- a token of a source with its spelling
+abbrev pub lexeme : List ℕ → Token → Lexeme
+lexeme source token = record { kind = token.kind; text = spelling_of source token }
+
+-- the tokens of a source, each with its spelling
+abbrev pub lexemes : List ℕ → List Token → List Lexeme
+lexemes source tokens = map (lexeme source) tokens
+
 -- a kind is a mark
 abbrev pub kind_is_mark : Mark → TokenKind → Bool
 kind_is_mark a (kind.Mark b) = sameb mark.the_type b a

@@ -16,3 +16,7 @@ pub mod Scripts
 pub mod Selects
 pub mod Trees
 pub mod Statements
+pub mod Ink
+pub mod Printing
+pub mod StatementPrinting
+pub mod ReadsBack
