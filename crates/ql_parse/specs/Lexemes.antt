@@ -143,14 +143,6 @@ abbrev pub sees_two : (Lexeme → Bool) → (Lexeme → Bool) → List Lexeme �
 sees_two test next [] = false
 sees_two test next (t ∷ ts) = test t && sees next ts
 
--- a token of a source, with the bytes that it stands on
-abbrev pub lexeme : List ℕ → Token → Lexeme
-lexeme source token = record { kind = token.kind; text = spelling_of source token }
-
--- the tokens of a source, with the bytes that they stand on
-abbrev pub lexemes : List ℕ → List Token → List Lexeme
-lexemes source tokens = map (lexeme source) tokens
-
 -- what the next token is
 abbrev pub kind_at : List Lexeme → Option TokenKind
 kind_at [] = None
