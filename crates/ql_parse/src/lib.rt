@@ -7,6 +7,7 @@ mod first;
 mod statement;
 mod syntax;
 mod token;
+mod typed;
 
 pub use copy::copy_expr;
 pub use first::{FirstFault, FirstStatement, FirstStatements, TABLE_LIMIT, first_script};
@@ -17,3 +18,4 @@ pub use syntax::{
     Expr, Exprs, Field, Fields, FromSet, FromSets, Function, Join, Link, Links, Select, SetSource,
     Side,
 };
+pub use typed::{OptTypeds, Typed, TypedLink, TypedLinks, TypedRows, Typeds};
