@@ -7,3 +7,6 @@ pub mod Readings
 pub mod Scripts
 pub mod Trees
 pub mod Statements
+pub mod Kinds
+pub mod Values
+pub mod Typing
