@@ -19,8 +19,9 @@ use Rattle.ql_value.specs.declared.value.Value.TheVariants as v
 use Rattle.ql_parse.specs.declared.syntax.Function.{Function}
 use Rattle.ql_parse.specs.declared.syntax.Function.TheVariants as f
 use Rattle.ql_parse.specs.declared.typed.Typed.{Typed}
+use Rattle.ql_parse.specs.declared.typed.TypedLink.{TypedLink}
 use Rattle.ql_parse.specs.declared.typed.Typed.TheOpen.{Typed-F, TypedLink-F}
-use Rattle.ql_parse.specs.declared.typed.Typed.TheFolds.{fold-Typed}
+use Rattle.ql_parse.specs.declared.typed.Typed.TheFolds.{fold-Typed, fold-TypedLink}
 use Rattle.ql_parse.specs.Kinds.{is_integer, is_truth, is_byte_list}
 
 -- why an expression has no value: a divisor is 0, a number is outside the kind that it meets, a shift count is negative
@@ -220,23 +221,29 @@ asked test _ v.Null = gives v.Null
 asked test (v.Text a) (v.Text b) = gives (v.Bool (test a b))
 asked test _ _ = means_nothing
 
--- the same to two parts: both are evaluated first, left then right
-abbrev pub asked_of : (List ℕ → List ℕ → Bool) → Outcome → Outcome → Outcome
-asked_of test left right = then_from left (λ x. then_from right (asked test x))
+-- a question to two parts: both are evaluated first, left then right
+abbrev pub asked_of : (List ℕ → List ℕ → Bool) → List Outcome → Outcome
+asked_of test (left ∷ right ∷ []) = then_from left (λ x. then_from right (asked test x))
+asked_of test _ = means_nothing
 
 -- the first value that is not NULL; no part behind it is evaluated
 abbrev pub coalesced : List Outcome → Outcome
 coalesced [] = gives v.Null
 coalesced (part ∷ parts) = then_from part (λ x. if is_null x then coalesced parts else gives x)
 
+-- the length of a part
+abbrev pub measured : List Outcome → Outcome
+measured (part ∷ []) = then_from part length_of
+measured _ = means_nothing
+
 -- the call of a function
 abbrev pub called : Function → List Outcome → Outcome
-called f.Len (part ∷ []) = then_from part length_of
-called f.Contains (left ∷ right ∷ []) = asked_of contains left right
-called f.HasPrefix (left ∷ right ∷ []) = asked_of has_prefix left right
-called f.HasSuffix (left ∷ right ∷ []) = asked_of has_suffix left right
+called f.Len parts = measured parts
+called f.Contains parts = asked_of contains parts
+called f.HasPrefix parts = asked_of has_prefix parts
+called f.HasSuffix parts = asked_of has_suffix parts
 called f.Coalesce parts = coalesced parts
-called _ _ = means_nothing
+called _ parts = means_nothing
 
 -- `a == b`, where a is a value
 abbrev pub equals : Value → Outcome → Outcome
@@ -277,3 +284,15 @@ link_step l = record { op = l.op; part = l.part }
 -- what an expression comes to at a row
 abbrev pub value_at : List Value → Typed → Outcome
 value_at row = fold-Typed Outcome Step (value_step row) link_step
+
+-- an operator of a chain, and what the part behind it comes to at a row
+abbrev pub step_at : List Value → TypedLink → Step
+step_at row = fold-TypedLink Outcome Step (value_step row) link_step
+
+-- what several parts come to at a row
+abbrev pub values_at : List Value → List Typed → List Outcome
+values_at row parts = map (value_at row) parts
+
+-- the same of the links of a chain
+abbrev pub steps_at : List Value → List TypedLink → List Step
+steps_at row links = map (step_at row) links
