@@ -1,3 +1,5 @@
+ghost use Rattle.std.specs.Prelude.{List, IfOk};
+ghost use Rattle.ql_parse.specs.Typing.{Typing, FitsRow, HasType, IsTyped, WellTyped, type_of};
 ghost use Rattle.ql_parse.specs.Values as spec;
 ghost use Rattle.ql_eval.specs.Gives.{Gives};
 ghost use Rattle.ql_eval.specs.Question.{test_of};
@@ -13,9 +15,20 @@ use ql_parse::{Function, Typed, TypedLink, TypedLinks, Typeds};
 use ql_value::{BinOp, Value, copy_value};
 use std::alloc::Global;
 
+/// The value of an expression at a row, or the first refusal in the order of evaluation. Some types that fit the
+/// values of the row must give the expression a type; its value is then one of that type. Only strings and blobs take
+/// memory.
+pub fn eval(alloc: Global, expr: &Typed, row: &[Value]) -> Result<Value, EvalFault>
+    requires { WellTyped row.now expr.now }
+    ensures value { Gives (spec.value_at row.now expr.now) result }
+    ensures kind { (types : List Typing) → FitsRow types row.now → IsTyped (type_of types expr.now) → IfOk result (HasType (type_of types expr.now)) }
+{
+    evaluated(alloc, expr, row)
+}
+
 /// What an expression comes to at a row.
 #[cycle(eval)]
-pub fn eval(alloc: Global, expr: &Typed, row: &[Value]) -> Result<Value, EvalFault>
+fn evaluated(alloc: Global, expr: &Typed, row: &[Value]) -> Result<Value, EvalFault>
     requires { spec.IsMeant (spec.value_at row.now expr.now) }
     ensures { Gives (spec.value_at row.now expr.now) result }
 {
@@ -23,29 +36,29 @@ pub fn eval(alloc: Global, expr: &Typed, row: &[Value]) -> Result<Value, EvalFau
         Typed::Constant(value) => Ok(copy_value(alloc, value)?),
         Typed::Place { at } => placed(alloc, row, *at),
         Typed::Chain { first, rest } => {
-            let first = eval(alloc, first.get(), row)?;
+            let first = evaluated(alloc, first.get(), row)?;
             chained(alloc, rest, row, first)
         }
         Typed::Unary { ops, part } => {
-            let value = eval(alloc, part.get(), row)?;
+            let value = evaluated(alloc, part.get(), row)?;
             prefixed(alloc, ops, value)
         }
         Typed::Convert { kind, part } => {
-            let value = eval(alloc, part.get(), row)?;
+            let value = evaluated(alloc, part.get(), row)?;
             converted(alloc, *kind, value)
         }
         Typed::Narrow { kind, part } => {
-            let value = eval(alloc, part.get(), row)?;
+            let value = evaluated(alloc, part.get(), row)?;
             narrowed(*kind, value)
         }
         Typed::Call { function, parts } => called(alloc, *function, parts, row),
         Typed::Aggregate { .. } => unreachable!(),
         Typed::IsIn { part, list } => {
-            let value = eval(alloc, part.get(), row)?;
+            let value = evaluated(alloc, part.get(), row)?;
             is_in(alloc, list, row, &value)
         }
         Typed::IsNull { part } => {
-            let value = eval(alloc, part.get(), row)?;
+            let value = evaluated(alloc, part.get(), row)?;
             Ok(Value::Bool(is_null(&value)))
         }
     }
@@ -78,7 +91,7 @@ fn linked(alloc: Global, link: &TypedLink, row: &[Value], left: Value) -> Result
     if decides(link.op, &left) {
         return Ok(left);
     }
-    let right = eval(alloc, &link.part, row)?;
+    let right = evaluated(alloc, &link.part, row)?;
     operate(alloc, link.op, &left, &right)
 }
 
@@ -110,7 +123,7 @@ fn or_equal(
     if decides(BinOp::Either, &found) {
         return Ok(found);
     }
-    let other = eval(alloc, part, row)?;
+    let other = evaluated(alloc, part, row)?;
     let same = comparison(BinOp::Eq, value, &other);
     Ok(either(&found, &same))
 }
@@ -142,8 +155,8 @@ fn measured(alloc: Global, parts: &Typeds, row: &[Value]) -> Result<Value, EvalF
     requires { spec.IsMeant (spec.measured (spec.values_at row.now parts.now)) }
     ensures { Gives (spec.measured (spec.values_at row.now parts.now)) result }
 {
-    let part = eval(alloc, &parts.as_slice()[0], row)?;
-    Ok(length_of(&part))
+    let part = evaluated(alloc, &parts.as_slice()[0], row)?;
+    length_of(alloc, &part)
 }
 
 /// A question to two parts.
@@ -157,8 +170,8 @@ fn asked_of(
     requires { spec.IsMeant (spec.asked_of (test_of question) (spec.values_at row.now parts.now)) }
     ensures { Gives (spec.asked_of (test_of question) (spec.values_at row.now parts.now)) result }
 {
-    let left = eval(alloc, &parts.as_slice()[0], row)?;
-    let right = eval(alloc, &parts.as_slice()[1], row)?;
+    let left = evaluated(alloc, &parts.as_slice()[0], row)?;
+    let right = evaluated(alloc, &parts.as_slice()[1], row)?;
     Ok(asked(question, &left, &right))
 }
 
@@ -169,7 +182,7 @@ fn coalesced(alloc: Global, parts: &Typeds, row: &[Value]) -> Result<Value, Eval
     ensures { Gives (spec.coalesced (spec.values_at row.now parts.now)) result }
 {
     'parts: for part in parts.as_slice() {
-        let value = eval(alloc, part, row)?;
+        let value = evaluated(alloc, part, row)?;
         if !is_null(&value) {
             return Ok(value);
         }

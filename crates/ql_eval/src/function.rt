@@ -1,20 +1,31 @@
 ghost use Rattle.std.specs.Prelude.{◌≡◌};
 ghost use Rattle.ql_parse.specs.Values as spec;
+ghost use Rattle.ql_eval.specs.Gives.{Gives};
 ghost use Rattle.ql_eval.specs.Question.{test_of};
 
+use crate::EvalFault;
 use memchr::memmem;
-use ql_value::{Kind, Value};
+use ql_value::{Kind, Value, convert};
+use std::alloc::Global;
 
 /// The length of a string or a blob in bytes.
-pub(crate) fn length_of(value: &Value) -> Value
+pub(crate) fn length_of(alloc: Global, value: &Value) -> Result<Value, EvalFault>
     requires { spec.IsMeant (spec.length_of value.now) }
-    ensures { spec.length_of value.now ≡ spec.gives result }
+    ensures { Gives (spec.length_of value.now) result }
 {
     match value {
-        Value::Null => Value::Null,
-        Value::Text(bytes) | Value::Blob(bytes) => { Value::Int(Kind::Int64, bytes.len() as i128) }
+        Value::Null => Ok(Value::Null),
+        Value::Text(bytes) | Value::Blob(bytes) => length_number(alloc, bytes.len()),
         _ => unreachable!(),
     }
+}
+
+/// A length as a number.
+fn length_number(alloc: Global, length: usize) -> Result<Value, EvalFault>
+    ensures { Gives (spec.length_number length) result }
+{
+    let number = Value::Int(Kind::Int64, length as i128);
+    Ok(convert(alloc, Kind::Int64, &number)?)
 }
 
 /// Whether the second list stands in the first.

@@ -5,6 +5,7 @@ use Rattle.std.specs.declared.cmp.Ordering.TheVariants.{Less, Equal, Greater}
 use Rattle.std.specs.List.{starts_with, ends_with}
 use Rattle.ql_value.specs.Arith.{arith_of, on_numbers}
 use Rattle.ql_value.specs.Convert.{converted, fitted}
+use Rattle.ql_value.specs.Number.{wrapped}
 use Rattle.ql_value.specs.Order.{compared}
 use Rattle.ql_value.specs.declared.fault.ValueFault.{ValueFault}
 use Rattle.ql_value.specs.declared.fault.ValueFault.TheVariants as fault
@@ -194,11 +195,15 @@ narrow_to kind v.Null = gives v.Null
 narrow_to kind (v.Int _ z) = if is_integer kind then outcome_of (fitted kind z) else means_nothing
 narrow_to kind _ = means_nothing
 
+-- a number of bytes as an int64, modulo 2 ^ 64 as every number
+abbrev pub length_number : ℕ → Outcome
+length_number n = gives (v.Int k.Int64 (wrapped k.Int64 (pos n)))
+
 -- the length of a string or a blob in bytes
 abbrev pub length_of : Value → Outcome
 length_of v.Null = gives v.Null
-length_of (v.Text bytes) = gives (v.Int k.Int64 (pos (length bytes)))
-length_of (v.Blob bytes) = gives (v.Int k.Int64 (pos (length bytes)))
+length_of (v.Text bytes) = length_number (length bytes)
+length_of (v.Blob bytes) = length_number (length bytes)
 length_of _ = means_nothing
 
 -- the second list stands at the front of the first

@@ -1,6 +1,7 @@
 -- The parts of a call.
-use Rattle.std.proofs.Common.{◌≡◌, get_or, ap, subst, ◌∙◌}
+use Rattle.std.proofs.Common.{get_or, sym, ap, subst, ◌∙◌}
 use Rattle.ql_parse.specs.Values as spec
+use Rattle.ql_eval.specs.Gives.{Gives}
 use Rattle.ql_eval.specs.Question.{test_of}
 use Rattle.ql_eval.proofs.Calls.{only_part, two_parts}
 use Rattle.ql_eval.proofs.evaluation.+eval.Goals as goal
@@ -20,4 +21,5 @@ asked_of-returns t c =
 pub measured-returns : goal.measured-returns
 measured-returns t c =
     let first = c.index-as_slice-0.is ∙ ap (λ z. get_or z 0 c.index-as_slice-0.result) c.as_slice.ensures in
-    only_part c.args.row.now c.args.parts.now c.index-as_slice-0.result c.in_ok-part.part c.length_of.result c.requires first c.in_ok-part.ensures c.length_of.ensures
+    let whole = only_part c.args.row.now c.args.parts.now c.index-as_slice-0.result c.in_ok-part.part c.requires first c.in_ok-part.ensures in
+    subst (λ o. Gives o c.length_of.result) (sym whole) c.length_of.ensures

@@ -1,5 +1,4 @@
 -- One operator of the run, from the last one on.
-use Rattle.std.proofs.Common.{◌∙◌, sym}
 use Rattle.ql_eval.proofs.Outcomes.{last_meant, last_gives}
 use Rattle.ql_eval.proofs.prefix.prefixed.Goals as goal
 
