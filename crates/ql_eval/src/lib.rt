@@ -13,3 +13,6 @@ mod prefix;
 pub use evaluation::eval;
 pub use fault::EvalFault;
 pub use ql_parse::{OptTypeds, Typed, TypedLink, TypedLinks, TypedRows, Typeds};
+
+#[cfg(test)]
+mod tests;

@@ -3,3 +3,4 @@ pub mod GrammarExamples
 pub mod GrammarLaws
 pub mod Tests
 pub mod Runs
+pub mod ValueExamples
