@@ -43,3 +43,28 @@ fn divisor_of_zero(rt: HostRuntime) -> Result<(), Fail> {
     assert!(rt; matches!(value, Err(EvalFault::Divide)));
     Ok(())
 }
+
+/// `0 - expr`
+fn behind(alloc: Global, expr: Typed) -> Result<Typed, NoMemory>
+    requires { type_of [] expr ≡ of_kind Kind.Int64 }
+    ensures { IfOk result (λ e. type_of [] e ≡ of_kind Kind.Int64) }
+{
+    let mut rest = TypedLinks::new(alloc);
+    rest.push(TypedLink {
+        op: BinOp::Sub,
+        part: expr,
+    })?;
+    let first = Boxed::new(alloc, number(0))?;
+    Ok(Typed::Chain { first, rest })
+}
+
+#[test]
+fn nested(rt: HostRuntime) -> Result<(), Fail> {
+    let mut expr = number(3);
+    for _ in 0..600u32 {
+        expr = behind(rt.alloc(), expr)?;
+    }
+    let value = eval(rt.alloc(), &expr, &[]);
+    assert!(rt; matches!(value, Ok(Value::Int(Kind::Int64, 3))));
+    Ok(())
+}
