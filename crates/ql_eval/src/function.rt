@@ -50,7 +50,7 @@ pub(crate) fn has_suffix(bytes: &[u8], part: &[u8]) -> bool
 }
 
 /// A question to two strings.
-#[derive(Clone, Copy, Debug, PartialEq, Eq)]
+#[derive(Clone, Copy)]
 pub(crate) enum Question {
     Contains,
     HasPrefix,
