@@ -36,3 +36,4 @@ pub mod BackStatementForms
 pub mod BackColumns
 pub mod BackStatements
 pub mod BackScripts
+pub mod ValueExamples

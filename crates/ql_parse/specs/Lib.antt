@@ -20,3 +20,6 @@ pub mod Ink
 pub mod Printing
 pub mod StatementPrinting
 pub mod ReadsBack
+pub mod Kinds
+pub mod Values
+pub mod Typing

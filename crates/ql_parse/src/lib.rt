@@ -8,6 +8,7 @@ mod parse;
 mod statement;
 mod syntax;
 mod token;
+mod typed;
 
 pub use copy::copy_expr;
 pub use first::{FirstFault, FirstStatement, FirstStatements, TABLE_LIMIT, first_script};
@@ -18,3 +19,4 @@ pub use syntax::{
     Expr, Exprs, Field, Fields, FromSet, FromSets, Function, Join, Link, Links, Select, SetSource,
     Side,
 };
+pub use typed::{OptTypeds, Typed, TypedLink, TypedLinks, TypedRows, Typeds};
