@@ -5,3 +5,5 @@ pub mod Tests
 pub mod Runs
 pub mod PrintingExamples
 pub mod PrintingEquations
+pub mod Growth
+pub mod PrintSteps
