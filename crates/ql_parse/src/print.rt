@@ -32,30 +32,12 @@ pub(crate) fn add_expr(expr: &Expr, out: &mut Bytes) -> Result<(), NoMemory>
             add_expr(part.get(), out)?;
             Ok(())
         }
-        Expr::Number(number) => {
-            print_number(*number, out)?;
-            Ok(())
-        }
-        Expr::Text(text) => {
-            print_text(text.as_slice(), out)?;
-            Ok(())
-        }
-        Expr::Truth(truth) => {
-            put(truth_bytes(*truth), out)?;
-            Ok(())
-        }
-        Expr::Null => {
-            put(b"NULL", out)?;
-            Ok(())
-        }
-        Expr::Column { table, column } => {
-            print_column(table, column, out)?;
-            Ok(())
-        }
-        Expr::Paren(part) => {
-            add_enclosed(part, out)?;
-            Ok(())
-        }
+        Expr::Number(number) => print_number(*number, out),
+        Expr::Text(text) => print_text(text.as_slice(), out),
+        Expr::Truth(truth) => put(truth_bytes(*truth), out),
+        Expr::Null => put(b"NULL", out),
+        Expr::Column { table, column } => print_column(table, column, out),
+        Expr::Paren(part) => add_enclosed(part, out),
         Expr::Call {
             function,
             parts,
