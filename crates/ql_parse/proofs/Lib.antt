@@ -7,3 +7,7 @@ pub mod PrintingExamples
 pub mod PrintingEquations
 pub mod Growth
 pub mod PrintSteps
+pub mod LexedInk
+pub mod PrintedTexts
+pub mod PrintedNumbers
+pub mod CutLemmas

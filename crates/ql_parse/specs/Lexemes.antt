@@ -1,5 +1,5 @@
 -- Tokens with their spelling, and what a place of the grammar asks of one token.
-use Rattle.std.specs.Prelude.{ℕ, Bool, true, false, ◌&&◌, ◌||◌, List, [], ◌∷◌, codes}
+use Rattle.std.specs.Prelude.{ℕ, Bool, true, false, ◌&&◌, ◌||◌, List, [], ◌∷◌, codes, map}
 use Rattle.std.specs.Str.{bytes_eq}
 use denote.Enum.Bare.{sameb}
 use Rattle.ql_lex.specs.contracts.marks.Mark as mark
@@ -8,6 +8,8 @@ use Rattle.ql_lex.specs.declared.marks.Mark.{Mark}
 use Rattle.ql_lex.specs.declared.marks.Mark.TheVariants as m
 use Rattle.ql_lex.specs.declared.words.Word.{Word}
 use Rattle.ql_lex.specs.declared.words.Word.TheVariants as w
+use Rattle.ql_lex.specs.Tokens.{spelling_of}
+use Rattle.ql_lex.specs.declared.token.Token.{Token}
 use Rattle.ql_lex.specs.declared.token.TokenKind.{TokenKind}
 use Rattle.ql_lex.specs.declared.token.TokenKind.TheVariants as kind
 
@@ -15,6 +17,14 @@ use Rattle.ql_lex.specs.declared.token.TokenKind.TheVariants as kind
 pub record Lexeme : Type 0 where
   pub kind : TokenKind
   pub text : List ℕ
+
+-- a token of a source with its spelling
+abbrev pub lexeme : List ℕ → Token → Lexeme
+lexeme source token = record { kind = token.kind; text = spelling_of source token }
+
+-- the tokens of a source, each with its spelling
+abbrev pub lexemes : List ℕ → List Token → List Lexeme
+lexemes source tokens = map (lexeme source) tokens
 
 -- a kind is a mark
 abbrev pub kind_is_mark : Mark → TokenKind → Bool
