@@ -11,3 +11,7 @@ pub mod LexedInk
 pub mod PrintedTexts
 pub mod PrintedNumbers
 pub mod CutLemmas
+pub mod SoundInk
+pub mod SoundTokens
+pub mod SoundParts
+pub mod SoundSelects
