@@ -37,3 +37,13 @@ pub mod BackColumns
 pub mod BackStatements
 pub mod BackScripts
 pub mod ValueExamples
+pub mod Growth
+pub mod PrintSteps
+pub mod LexedInk
+pub mod PrintedTexts
+pub mod PrintedNumbers
+pub mod CutLemmas
+pub mod SoundInk
+pub mod SoundTokens
+pub mod SoundParts
+pub mod SoundSelects

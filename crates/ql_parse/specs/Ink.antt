@@ -1,5 +1,5 @@
 -- Printed texts: tokens and the blanks between them.
-use Rattle.std.specs.Prelude.{ℕ, false, List, [], ◌∷◌, ◌++◌, map, flat_map, decimal}
+use Rattle.std.specs.Prelude.{◌≡◌, ℕ, zero, suc, false, List, [], ◌∷◌, ◌++◌, map, flat_map, decimal}
 use Rattle.std.specs.Char.{to_ascii_uppercase}
 use Rattle.ql_lex.specs.declared.marks.Mark.{Mark}
 use Rattle.ql_lex.specs.declared.marks.Mark.TheVariants as m
@@ -62,10 +62,24 @@ abbrev pub between : List Ink → List (List Ink) → List Ink
 between gap [] = []
 between gap (x ∷ xs) = x ++ flat_map (λ y. gap ++ y) xs
 
+-- `, `
+abbrev pub comma : List Ink
+comma = mark m.Comma ∷ space ∷ []
+
 -- parts with `, ` between them
 abbrev pub listed : List (List Ink) → List Ink
-listed parts = between (mark m.Comma ∷ space ∷ []) parts
+listed parts = between comma parts
+
+-- what stands before the part with this number, counted from 0, where pieces stand between parts
+abbrev pub gap_before : List Ink → ℕ → List Ink
+gap_before gap zero = []
+gap_before gap (suc n) = gap
 
 -- a part in brackets
 abbrev pub bracketed : List Ink → List Ink
 bracketed part = mark m.Open ∷ part ++ mark m.Close ∷ []
+
+-- a text begins with what it was before
+pub record Grows (old new : List ℕ) : Type 0 where
+  pub more : List ℕ
+  pub added : new ≡ old ++ more

@@ -5,6 +5,9 @@ mod copy;
 mod cursor;
 mod first;
 mod parse;
+mod print;
+mod print_statements;
+mod spelled;
 mod statement;
 mod syntax;
 mod token;
@@ -12,6 +15,8 @@ mod typed;
 
 pub use copy::copy_expr;
 pub use first::{FirstFault, FirstStatement, FirstStatements, TABLE_LIMIT, first_script};
+pub use print::print_expr;
+pub use print_statements::print_statement;
 pub use statement::{
     Assign, Assigns, ColumnDef, ColumnDefs, ExprRows, Item, RowSource, Statement, Statements,
 };
