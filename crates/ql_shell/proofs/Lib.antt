@@ -1,4 +1,5 @@
 pub mod Giving
+pub mod Numbers
 pub mod Pieces
 pub mod Places
 pub mod Taking
