@@ -67,8 +67,8 @@ join_later which set on h k =
     let inner : Inks = ink_of_set set ++ (space ∷ keyword w.On ∷ space ∷ ink_of_expr on) in
     rw (of_join which set on) (record {
       goes = λ tail e l.
-        blank (side_lexed which (keyword w.Outer ∷ space ∷ keyword w.Join ∷ space ∷ inner ++ tail)
-        (keyword_lexed w.Outer (space ∷ keyword w.Join ∷ space ∷ inner ++ tail) refl refl refl (blank (keyword_lexed w.Join (space ∷ inner ++ tail) refl refl refl (blank (both.goes tail e l))))));
+          blank (side_lexed which (keyword w.Outer ∷ space ∷ keyword w.Join ∷ space ∷ inner ++ tail)
+          (keyword_lexed w.Outer (space ∷ keyword w.Join ∷ space ∷ inner ++ tail) refl refl refl (blank (keyword_lexed w.Join (space ∷ inner ++ tail) refl refl refl (blank (both.goes tail e l))))));
       apart = λ tail e. refl;
     })
 
@@ -120,7 +120,7 @@ begins_select : (distinct : Bool) (x : Inks) → IsSound x → IsSound ((keyword
 begins_select false x h = record { goes = λ tail e l. keyword_lexed w.Select (space ∷ x ++ tail) refl refl refl (blank (h.goes tail e l)) }
 begins_select true x h = record {
   goes = λ tail e l.
-    keyword_lexed w.Select (space ∷ keyword w.Distinct ∷ space ∷ x ++ tail) refl refl refl (blank (keyword_lexed w.Distinct (space ∷ x ++ tail) refl refl refl (blank (h.goes tail e l))));
+      keyword_lexed w.Select (space ∷ keyword w.Distinct ∷ space ∷ x ++ tail) refl refl refl (blank (keyword_lexed w.Distinct (space ∷ x ++ tail) refl refl refl (blank (h.goes tail e l))));
 }
 
 -- what a SELECT needs of its parts
