@@ -19,3 +19,5 @@ pub mod Fits
 pub mod SoundPrimaries
 pub mod SoundLevels
 pub mod SoundQueries
+pub mod SoundForms
+pub mod SoundStatements

@@ -1,19 +1,14 @@
 -- Printed primaries, where what stands in their brackets is sound.
-use Rattle.std.proofs.Common.{◌≡◌, ℕ, zero, suc, Bool, true, false, List, [], ◌∷◌, ◌++◌, Option, Some, None, map, refl}
-use Rattle.ql_lex.specs.declared.marks.Mark.TheVariants as m
-use Rattle.ql_lex.specs.declared.words.Word.TheVariants as w
+use Rattle.std.proofs.Common.{ℕ, zero, suc, true, false, [], map}
 use Rattle.ql_lex.specs.Numbers.{number_value}
 use Rattle.ql_lex.specs.Meaning.{text_value}
-use Rattle.ql_parse.specs.declared.syntax.Expr.{Expr}
-use Rattle.ql_parse.specs.Lexemes.{is_either, is_both, is_sum, is_product, is_comparison}
-use Rattle.ql_parse.specs.Rules.{Rule, ◌then◌, ◌or◌, the, token, many, maybe, further, list, word, mark, expr, term, factor, sum, product, unary, primary, predicate, ref, select, set}
-use Rattle.ql_parse.specs.Rules as rule
+use Rattle.ql_parse.specs.Rules.{the, further, list, expr, primary, ref, select}
 use Rattle.ql_parse.specs.Readings.{Parse}
-use Rattle.ql_parse.specs.Trees.{bin_op, ops_of, name_of, alias_of, is_present, is_descending, side_of, kind_named, function_named, chain, expr_of, links_of, exprs_of, option_of, behind_by, tested_of, fields_of, source_of, set_of, sets_in, sets_of, join_of, select_of}
-use Rattle.ql_parse.specs.Printing.{ink_of_expr, ink_of_select, ink_of_field, ink_of_source, ink_of_set}
+use Rattle.ql_parse.specs.Trees.{name_of, kind_named, function_named, expr_of, exprs_of, select_of}
+use Rattle.ql_parse.specs.Printing.{ink_of_expr, ink_of_select}
 use Rattle.ql_parse.proofs.Fits.{Fits, is_name, is_worth}
 use Rattle.ql_parse.proofs.Fits as f
-use Rattle.ql_parse.proofs.SoundInk.{IsSound, IsLater, IsPart, AreSound, sound_part, later_none, none, one}
+use Rattle.ql_parse.proofs.SoundInk.{IsSound, IsPart, AreSound, none, one}
 use Rattle.ql_parse.proofs.SoundParts.{number_part, text_part, true_part, false_part, null_part, column_part, table_column_part, paren_part, call_part, convert_part}
 
 -- with so much room for brackets, expressions are sound
