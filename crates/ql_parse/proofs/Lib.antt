@@ -47,3 +47,9 @@ pub mod SoundInk
 pub mod SoundTokens
 pub mod SoundParts
 pub mod SoundSelects
+pub mod Fits
+pub mod SoundPrimaries
+pub mod SoundLevels
+pub mod SoundQueries
+pub mod SoundForms
+pub mod SoundStatements
