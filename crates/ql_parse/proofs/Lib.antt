@@ -1,3 +1,4 @@
+pub mod ScriptLemmas
 pub mod ReadBack
 pub mod SelectLemmas
 pub mod PredicateLemmas

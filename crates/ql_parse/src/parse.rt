@@ -6,11 +6,17 @@ mod fault;
 mod from;
 mod functions;
 mod kinds;
+mod knot;
 mod level;
 mod list;
 mod members;
 mod parser;
 mod predicate;
 mod primary;
+mod scripts;
 mod select;
+mod statement_stub;
 mod steps;
+
+pub use fault::ParseFault;
+pub use scripts::{BRACKET_LIMIT, script};
