@@ -1,5 +1,6 @@
 mod brackets;
 mod chain;
+mod clause;
 mod cursor;
 mod fault;
 mod functions;
