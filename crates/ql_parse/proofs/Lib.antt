@@ -1,3 +1,4 @@
+pub mod StatementLemmas
 pub mod PredicateLemmas
 pub mod CallLemmas
 pub mod PrimaryLemmas

@@ -15,3 +15,5 @@ pub mod Readings
 pub mod Scripts
 pub mod Trees
 pub mod Statements
+pub mod StatementParts
+pub mod StatementLists

@@ -1,7 +1,9 @@
 mod brackets;
 mod chain;
 mod clause;
+mod columns;
 mod cursor;
+mod exists;
 mod fault;
 mod functions;
 mod kinds;
