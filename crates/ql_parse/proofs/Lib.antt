@@ -1,3 +1,4 @@
+pub mod Answering
 pub mod StatementLemmas
 pub mod PredicateLemmas
 pub mod CallLemmas

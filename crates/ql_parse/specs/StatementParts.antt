@@ -55,9 +55,14 @@ abbrev pub index_of : Parse → Statement
 index_of (pair u (pair _ (pair q (pair n t)))) = s.CreateIndex (is_present u) (is_present q) (name_of n) (target_of t).0 (target_of t).1
 index_of _ = s.Begin
 
--- what CREATE makes
+-- what stands behind CREATE
 abbrev pub made_rule : Rule
 made_rule = table_rule or index_rule
+
+abbrev pub made_of : Parse → Statement
+made_of (left a) = table_of a
+made_of (right a) = index_of a
+made_of _ = s.Begin
 
 -- a keyword, `[IF EXISTS]` and a name
 abbrev pub quiet_rule : Word → Rule

@@ -2,6 +2,7 @@ mod brackets;
 mod chain;
 mod clause;
 mod columns;
+mod create;
 mod cursor;
 mod exists;
 mod fault;
