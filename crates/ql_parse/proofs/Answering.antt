@@ -10,8 +10,8 @@ use Rattle.ql_parse.proofs.Sequences.{fails_the, fails_second, fails_left, fails
 
 -- the second of two parts
 pub second_answers : {A B : Type 0} {n : ℕ} {x y : Rule} {old mid new : List Lexeme} {t : Parse → B} {v : B} (tree all : Parse → A) (r : Result A Fault)
-    → Gives n x t old v mid → Answers n y tree mid r new → ((a b : Parse) → Reads n y mid b new → tree b ≡ all (pair a b)) → Answers n (x then y) all old r new
-second_answers tree all (Ok value) h i same = record { parse = pair h.parse i.parse; reads = both h.reads i.reads; means = i.means ∙ same h.parse i.parse i.reads }
+    → (h : Gives n x t old v mid) → Answers n y tree mid r new → ((b : Parse) → Reads n y mid b new → tree b ≡ all (pair h.parse b)) → Answers n (x then y) all old r new
+second_answers tree all (Ok value) h i same = record { parse = pair h.parse i.parse; reads = both h.reads i.reads; means = i.means ∙ same i.parse i.reads }
 second_answers tree all (Err d) h i same = fails_second h i
 
 -- the first alternative

@@ -10,12 +10,16 @@ use Rattle.ql_parse.specs.declared.syntax.Expr.{Expr}
 use Rattle.ql_parse.specs.declared.syntax.Select.{Select}
 use Rattle.ql_parse.specs.Lexemes.{Lexeme, sees, sees_two}
 use Rattle.ql_parse.specs.Nests.{Nests}
-use Rattle.ql_parse.specs.Rules.{creation, before, bracketed}
+use Rattle.ql_parse.specs.Trees.{name_of}
+use Rattle.ql_lex.specs.declared.words.Word.{Word}
+use Rattle.ql_parse.specs.Rules.{creation, removal, alteration, before, bracketed}
 use Rattle.ql_parse.specs.Parses.{Gives, no_value}
 use Rattle.ql_parse.specs.Readings.{Parse, Reads, leaf, takes_before, pair, left, right, group, node, both, first, second, enclosed}
-use Rattle.ql_parse.specs.StatementParts.{item_rule, one_item_of, table_rule, table_of, index_rule, index_of, made_rule, made_of}
-use Rattle.ql_parse.specs.Statements.{item_of, creation_of}
+use Rattle.ql_parse.specs.StatementParts.{item_rule, one_item_of, table_rule, table_of, index_rule, index_of, made_rule, made_of, quiet_rule, quiet_of, change_rule, change_of}
+use Rattle.ql_parse.specs.Statements.{item_of, creation_of, removal_of, alteration_of}
+use Rattle.ql_parse.specs.declared.statement.Assign.{Assign}
 use Rattle.ql_parse.specs.declared.statement.Item.{Item}
+use Rattle.ql_parse.specs.declared.statement.RowSource.{RowSource}
 use Rattle.ql_parse.specs.declared.statement.Statement.TheVariants as s
 
 -- functions that parse in any room smaller than a number do so for a smaller number
@@ -82,3 +86,31 @@ taken_before n {old = []} e d = cc
 taken_before n {test = test} {next = next} {old = t ∷ ts} e d =
     let both = and_both (test t) (sees next ts) e in
     rw d (record { parse = leaf t; reads = takes_before both.0 both.1; means = refl })
+
+-- what DROP takes away
+pub dropped_table : {n : ℕ} {ts rest : List Lexeme} {a : Parse} {quiet : Bool} {table : List ℕ} (w : Word) (k : Parse) → Reads n (quiet_rule w) ts a rest
+    → ◌≡◌ {A = Bool × List ℕ} (quiet, table) (quiet_of a) → s.DropTable quiet table ≡ removal_of (node removal (pair k (left a)))
+dropped_table w k (both h (both i j)) e = ap (λ (x : Bool × List ℕ). s.DropTable x.0 x.1) e
+
+pub dropped_index : {n : ℕ} {ts rest : List Lexeme} {a : Parse} {quiet : Bool} {index : List ℕ} (w : Word) (k : Parse) → Reads n (quiet_rule w) ts a rest
+    → ◌≡◌ {A = Bool × List ℕ} (quiet, index) (quiet_of a) → s.DropIndex quiet index ≡ removal_of (node removal (pair k (right a)))
+dropped_index w k (both h (both i j)) e = ap (λ (x : Bool × List ℕ). s.DropIndex x.0 x.1) e
+
+-- what ALTER changes
+pub change_tree : {n : ℕ} {ts rest : List Lexeme} {table : List ℕ} (k k' t : Parse) → table ≡ name_of t → (a : Parse) → Reads n change_rule ts a rest
+    → change_of table a ≡ alteration_of (node alteration (pair k (pair k' (pair t a))))
+change_tree k k' t e _ (first f (both h i)) = rw e refl
+change_tree k k' t e _ (second f g (both h (both i j))) = rw e refl
+
+-- equal parts make equal statements
+pub same_insert : {t t' : List ℕ} {cs cs' : List (List ℕ)} {r r' : RowSource} → t ≡ t' → cs ≡ cs' → r ≡ r' → s.Insert t cs r ≡ s.Insert t' cs' r'
+same_insert e f g = rw (e, f, g) refl
+
+pub same_assign : {c c' : List ℕ} {v v' : Expr} → c ≡ c' → v ≡ v' → ◌≡◌ {A = Assign} (record { column = c; value = v }) (record { column = c'; value = v' })
+same_assign e f = rw (e, f) refl
+
+pub same_update : {t t' : List ℕ} {xs xs' : List Assign} {w w' : Option Expr} → t ≡ t' → xs ≡ xs' → w ≡ w' → s.Update t xs w ≡ s.Update t' xs' w'
+same_update e f g = rw (e, f, g) refl
+
+pub same_delete : {t t' : List ℕ} {w w' : Option Expr} → t ≡ t' → w ≡ w' → s.Delete t w ≡ s.Delete t' w'
+same_delete e f = rw (e, f) refl

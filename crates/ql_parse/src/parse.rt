@@ -1,3 +1,4 @@
+mod alter;
 mod brackets;
 mod chain;
 mod clause;
@@ -15,3 +16,4 @@ mod parser;
 mod predicate;
 mod primary;
 mod steps;
+mod update;
