@@ -18,6 +18,14 @@ pub record Lexeme : Type 0 where
   pub kind : TokenKind
   pub text : List ℕ
 
+-- a token of a source with its spelling
+abbrev pub lexeme : List ℕ → Token → Lexeme
+lexeme source token = record { kind = token.kind; text = spelling_of source token }
+
+-- the tokens of a source, each with its spelling
+abbrev pub lexemes : List ℕ → List Token → List Lexeme
+lexemes source tokens = map (lexeme source) tokens
+
 -- a kind is a mark
 abbrev pub kind_is_mark : Mark → TokenKind → Bool
 kind_is_mark a (kind.Mark b) = sameb mark.the_type b a
@@ -134,14 +142,6 @@ sees test (t ∷ ts) = test t
 abbrev pub sees_two : (Lexeme → Bool) → (Lexeme → Bool) → List Lexeme → Bool
 sees_two test next [] = false
 sees_two test next (t ∷ ts) = test t && sees next ts
-
--- a token of a source, with the bytes that it stands on
-abbrev pub lexeme : List ℕ → Token → Lexeme
-lexeme source token = record { kind = token.kind; text = spelling_of source token }
-
--- the tokens of a source, with the bytes that they stand on
-abbrev pub lexemes : List ℕ → List Token → List Lexeme
-lexemes source tokens = map (lexeme source) tokens
 
 -- what the next token is
 abbrev pub kind_at : List Lexeme → Option TokenKind

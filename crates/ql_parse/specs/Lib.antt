@@ -13,7 +13,15 @@ pub mod Predicates
 pub mod Rules
 pub mod Readings
 pub mod Scripts
+pub mod Selects
 pub mod Trees
 pub mod Statements
 pub mod StatementParts
 pub mod StatementLists
+pub mod Ink
+pub mod Printing
+pub mod StatementPrinting
+pub mod ReadsBack
+pub mod Kinds
+pub mod Values
+pub mod Typing

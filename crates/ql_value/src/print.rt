@@ -1,4 +1,4 @@
-ghost use Rattle.std.specs.Prelude.{◌≡◌, ℕ, ◌<◌, ◌≤◌, true, ◌++◌, [], ◌∷◌, take, length, IsTrue, IfOk, OnOk, OnErr};
+ghost use Rattle.std.specs.Prelude.{◌≡◌, ℕ, ◌<◌, ◌≤◌, true, false, ◌++◌, [], ◌∷◌, take, length, decimal, IsTrue, IfOk, OnOk, OnErr};
 ghost use Rattle.ql_value.specs.Print.{AddsFront, blob_text, hex_digit, is_hidden, other_byte, printed, quoted, shown_byte, shown_bytes};
 
 use crate::Value;
@@ -18,6 +18,30 @@ pub fn print_value(value: &Value, out: &mut Bytes) -> Result<(), NoMemory>
             Err(fault)
         }
     }
+}
+
+/// Adds a string of these bytes as the value prints, between quotes. A refusal leaves `out` as before.
+pub fn print_text(bytes: &[u8], out: &mut Bytes) -> Result<(), NoMemory>
+    ensures ok { OnOk result (out.new ≡ out.old ++ quoted false bytes.now) }
+    ensures err { OnErr result (out.new ≡ out.old) }
+{
+    let before = out.len();
+    match print_quoted(bytes, false, out) {
+        Ok(()) => Ok(()),
+        Err(fault) => {
+            out.truncate(before);
+            Err(fault)
+        }
+    }
+}
+
+/// Adds a number in decimal. A refusal leaves `out` as before.
+pub fn print_number(number: u64, out: &mut Bytes) -> Result<(), NoMemory>
+    ensures ok { OnOk result (out.new ≡ out.old ++ decimal number) }
+    ensures err { OnErr result (out.new ≡ out.old) }
+{
+    let mut buffer = Buffer::new();
+    out.extend(buffer.format(number).as_bytes())
 }
 
 /// Adds what the value prints at the end, or a front of it.

@@ -3,7 +3,7 @@ ghost use Rattle.ql_lex.specs.declared.token.TokenKind.TheVariants as kind;
 ghost use Rattle.ql_parse.specs.Lexemes as spec;
 ghost use Rattle.ql_parse.specs.Levels.{token_of, kind_of_next, next_un_op};
 ghost use Rattle.ql_parse.specs.Predicates.{membership_rule};
-ghost use Rattle.ql_parse.specs.Rules.{begins_expr, enters};
+ghost use Rattle.ql_parse.specs.Rules.{begins_expr, enters, join, the, set};
 ghost use Rattle.ql_parse.specs.Trees.{kind_named, un_op};
 
 use super::cursor::Cursor;
@@ -110,6 +110,26 @@ pub fn begins_membership(cursor: &Cursor<'_>) -> bool
 {
     match cursor.kind() {
         Some(TokenKind::Word(Word::Not | Word::In | Word::Between)) => true,
+        _ => false,
+    }
+}
+
+/// Whether a join can begin at the next token.
+pub fn begins_join(cursor: &Cursor<'_>) -> bool
+    ensures { result ≡ enters join cursor.now }
+{
+    match cursor.kind() {
+        Some(TokenKind::Word(Word::Left | Word::Right | Word::Full)) => true,
+        _ => false,
+    }
+}
+
+/// Whether a record set can begin at the next token.
+pub fn begins_set(cursor: &Cursor<'_>) -> bool
+    ensures { result ≡ enters (the set) cursor.now }
+{
+    match cursor.kind() {
+        Some(TokenKind::Name | TokenKind::Mark(Mark::Open)) => true,
         _ => false,
     }
 }

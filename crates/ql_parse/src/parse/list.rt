@@ -6,9 +6,9 @@ ghost use Rattle.ql_parse.specs.Rules as rule;
 
 use super::cursor::Cursor;
 use super::fault::Fault;
-use super::kinds::begins_expr;
-use super::steps::eat_mark;
-use crate::syntax::Expr;
+use super::kinds::{begins_expr, begins_set};
+use super::steps::{eat_mark, sees_name};
+use crate::syntax::{Expr, Field, FromSet};
 use ql_edge::Items;
 use ql_lex::Mark;
 use std::alloc::Global;
@@ -57,5 +57,44 @@ impl Listed for ExprList {
 
     fn begins(cursor: &Cursor<'_>) -> bool {
         begins_expr(cursor)
+    }
+}
+
+/// The fields of a SELECT.
+pub struct FieldList;
+
+impl Listed for FieldList {
+    type Member = Field;
+
+    ghost of = { spec.field_list };
+
+    fn begins(cursor: &Cursor<'_>) -> bool {
+        begins_expr(cursor)
+    }
+}
+
+/// The record sets behind FROM.
+pub struct SetList;
+
+impl Listed for SetList {
+    type Member = FromSet;
+
+    ghost of = { spec.set_list };
+
+    fn begins(cursor: &Cursor<'_>) -> bool {
+        begins_set(cursor)
+    }
+}
+
+/// The columns behind GROUP BY.
+pub struct RefList;
+
+impl Listed for RefList {
+    type Member = Expr;
+
+    ghost of = { spec.ref_list };
+
+    fn begins(cursor: &Cursor<'_>) -> bool {
+        sees_name(cursor)
     }
 }

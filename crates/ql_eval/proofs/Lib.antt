@@ -1,0 +1,9 @@
+pub mod Outcomes
+pub mod Calls
+pub mod Places
+pub mod TypeLemmas
+pub mod Sorts
+pub mod OperatorTypes
+pub mod PartTypes
+pub mod Soundness
+pub mod Searches

@@ -1,0 +1,42 @@
+ghost use Rattle.ql_parse.specs.Values as spec;
+ghost use Rattle.ql_eval.specs.Gives.{Gives};
+
+use crate::EvalFault;
+use ql_value::{Kind, Value, convert, copy_value, fit};
+use std::alloc::Global;
+
+/// A copy of the value at a place of the row.
+pub(crate) fn placed(alloc: Global, row: &[Value], at: u32) -> Result<Value, EvalFault>
+    requires { spec.IsMeant (spec.at_place row.now at) }
+    ensures { Gives (spec.at_place row.now at) result }
+{
+    let index = at as usize;
+    Ok(copy_value(alloc, &row[index])?)
+}
+
+/// A conversion of a value. Strings and blobs are moved, not copied.
+pub(crate) fn converted(alloc: Global, kind: Kind, value: Value) -> Result<Value, EvalFault>
+    requires { spec.IsMeant (spec.convert_to kind value) }
+    ensures { Gives (spec.convert_to kind value) result }
+{
+    match value {
+        Value::Text(bytes) | Value::Blob(bytes) => Ok(if kind == Kind::Text {
+            Value::Text(bytes)
+        } else {
+            Value::Blob(bytes)
+        }),
+        other => Ok(convert(alloc, kind, &other)?),
+    }
+}
+
+/// A number as one of an integer kind that it met.
+pub(crate) fn narrowed(kind: Kind, value: Value) -> Result<Value, EvalFault>
+    requires { spec.IsMeant (spec.narrow_to kind value) }
+    ensures { Gives (spec.narrow_to kind value) result }
+{
+    match value {
+        Value::Null => Ok(Value::Null),
+        Value::Int(_, number) => Ok(fit(kind, number)?),
+        _ => unreachable!(),
+    }
+}

@@ -1,0 +1,18 @@
+//! The value of a typed expression at a row.
+#![tactic(auto)]
+
+mod compare;
+mod convert;
+mod evaluation;
+mod fault;
+mod function;
+mod logic;
+mod operate;
+mod prefix;
+
+pub use evaluation::eval;
+pub use fault::EvalFault;
+pub use ql_parse::{OptTypeds, Typed, TypedLink, TypedLinks, TypedRows, Typeds};
+
+#[cfg(test)]
+mod tests;

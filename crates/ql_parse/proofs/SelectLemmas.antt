@@ -1,0 +1,73 @@
+-- What the parts of a SELECT mean.
+use Rattle.std.proofs.Common.{◌≡◌, ℕ, Bool, true, false, List, [], ◌∷◌, refl, ap}
+use Rattle.std.specs.Prelude.{Option, Some, None}
+use Rattle.ql_parse.specs.declared.parse.from.Sources.{Sources}
+use Rattle.ql_parse.specs.declared.parse.select.Filtered.{Filtered}
+use Rattle.ql_parse.specs.declared.syntax.Expr.{Expr}
+use Rattle.ql_parse.specs.declared.syntax.Field.{Field, roll-Field}
+use Rattle.ql_parse.specs.declared.syntax.FromSet.{FromSet, roll-FromSet}
+use Rattle.ql_parse.specs.declared.syntax.Join.{Join, roll-Join}
+use Rattle.ql_parse.specs.declared.syntax.Select.{Select, roll-Select}
+use Rattle.ql_parse.specs.declared.syntax.SetSource.{SetSource}
+use Rattle.ql_parse.specs.declared.syntax.SetSource.TheVariants as source
+use Rattle.ql_parse.specs.declared.syntax.Side.{Side}
+use Rattle.ql_parse.specs.Lexemes.{Lexeme}
+use Rattle.ql_parse.specs.Members.{subselect_of}
+use Rattle.ql_parse.specs.Rules.{Rule, the, ref, expr, select, maybe, list, bracketed, subselect}
+use Rattle.ql_parse.specs.Rules as rule
+use Rattle.ql_parse.specs.Readings.{Parse, Reads, pair, left, right, present, node, group, both, first, second, left_out, entered, enclosed, by_rule}
+use Rattle.ql_parse.specs.Selects.{maybe_join_of, direction_rule, direction_of, filtered_rule, filtered_of, from_of}
+use Rattle.ql_parse.specs.Trees.{source_of, join_of, exprs_of, behind_by, is_descending, is_present, fields_of, sets_of, option_of, select_of}
+
+-- equal parts make equal fields, record sets and joins
+pub same_field : {a b : Expr} {n m : Option (List ℕ)} → a ≡ b → n ≡ m → roll-Field (record { expr = a; alias = n }) ≡ roll-Field (record { expr = b; alias = m })
+same_field e d = rw (e, d) refl
+
+pub same_set : {a b : SetSource} {n m : Option (List ℕ)} → a ≡ b → n ≡ m → roll-FromSet (record { source = a; alias = n }) ≡ roll-FromSet (record { source = b; alias = m })
+same_set e d = rw (e, d) refl
+
+pub same_join : {s r : Side} {a b : FromSet} {x y : Expr} → s ≡ r → a ≡ b → x ≡ y → roll-Join (record { side = s; set = a; on = x }) ≡ roll-Join (record { side = r; set = b; on = y })
+same_join e d f = rw (e, d, f) refl
+
+-- a subselect as a record set
+pub source_tree : {n : ℕ} {ts rest : List Lexeme} {a : Parse} → Reads n (bracketed subselect) ts (group a) rest → source.Query (subselect_of a) ≡ source_of (right (group a))
+source_tree (enclosed o (both h k) c) = refl
+
+-- the join behind the record sets
+pub join_tree : {n : ℕ} {ts rest : List Lexeme} {j : Parse} (f s : Parse) → Reads n (maybe rule.join) ts j rest → maybe_join_of j ≡ join_of (present (pair f (pair s j)))
+join_tree f s (left_out e) = refl
+join_tree f s (entered e (both h (both i (both k (both l (both m o)))))) = refl
+
+-- the columns behind GROUP BY
+pub groups_tree : {n : ℕ} {ts rest : List Lexeme} {a : Parse} (g b : Parse) → Reads n (list (the ref)) ts a rest → exprs_of a ≡ behind_by (present (pair g (pair b a)))
+groups_tree g b (both (by_rule h) k) = refl
+
+-- the expressions behind ORDER BY, and the direction
+pub keys_tree : {n : ℕ} {ts rest : List Lexeme} {a : Parse} (o b d : Parse) → Reads n (list (the expr)) ts a rest → exprs_of a ≡ behind_by (present (pair o (pair b (pair a d))))
+keys_tree o b d (both h k) = refl
+
+pub direction_tree : {n : ℕ} {ts rest : List Lexeme} {d : Parse} (o b a : Parse) → Reads n direction_rule ts d rest → direction_of d ≡ is_descending (present (pair o (pair b (pair a d))))
+direction_tree o b a (left_out e) = refl
+direction_tree o b a (entered e (first f h)) = refl
+direction_tree o b a (entered e (second f g h)) = refl
+
+-- equal pairs
+pub same_pair : {A B : Type 0} {a b : A} {x y : B} → a ≡ b → x ≡ y → ◌≡◌ {A = A × B} (a, x) (b, y)
+same_pair e d = rw (e, d) refl
+
+-- equal parts make equal sources
+pub same_sources : {a b : List FromSet} {x y : Option Join} → a ≡ b → x ≡ y → ◌≡◌ {A = Sources} (record { sets = a; join = x }) (record { sets = b; join = y })
+same_sources e d = rw (e, d) refl
+
+-- what stands behind FROM, of its parts
+pub filtered_made : {w v : Option Expr} {g h : List Expr} {q r : (List Expr × Bool) × (Option Expr × Option Expr)} → w ≡ v → g ≡ h → q ≡ r
+    → ◌≡◌ {A = Filtered} (record { filter = w; groups = g; sorted = q }) (record { filter = v; groups = h; sorted = r })
+filtered_made e d f = rw (e, d, f) refl
+
+-- a SELECT of its parts
+pub select_made : {n : ℕ} {ts rest : List Lexeme} {q : Parse} (k d s f : Parse) {distinct : Bool} {fields : List Field} (sources : Sources) (filtered : Filtered)
+    → Reads n filtered_rule ts q rest → distinct ≡ is_present d → fields ≡ fields_of s → sources ≡ from_of f → filtered ≡ filtered_of q
+    → roll-Select (record { distinct = distinct; fields = fields; sets = sources.sets; join = sources.join; filter = filtered.filter; groups = filtered.groups; keys = filtered.sorted.0.0; descending = filtered.sorted.0.1;
+        limit = filtered.sorted.1.0; offset = filtered.sorted.1.1 })
+      ≡ select_of (node select (pair k (pair d (pair s (pair f q)))))
+select_made k d s f sources filtered (both h (both i (both j (both l m)))) e1 e2 e3 e4 = rw (e1, e2, e3, e4) refl
