@@ -1,4 +1,6 @@
 pub mod ScriptLemmas
+pub mod Answering
+pub mod StatementLemmas
 pub mod ReadBack
 pub mod SelectLemmas
 pub mod PredicateLemmas

@@ -1,7 +1,11 @@
+mod alter;
 mod brackets;
 mod chain;
 mod clause;
+mod columns;
+mod create;
 mod cursor;
+mod exists;
 mod fault;
 mod from;
 mod functions;
@@ -17,6 +21,7 @@ mod scripts;
 mod select;
 mod statement_stub;
 mod steps;
+mod update;
 
 pub use fault::ParseFault;
 pub use scripts::{BRACKET_LIMIT, script};
