@@ -9,6 +9,7 @@ mod exists;
 mod fault;
 mod from;
 mod functions;
+mod insert;
 mod kinds;
 mod knot;
 mod level;
@@ -19,7 +20,7 @@ mod predicate;
 mod primary;
 mod scripts;
 mod select;
-mod statement_stub;
+mod statement;
 mod steps;
 mod update;
 
