@@ -2,8 +2,7 @@
 use Rattle.std.specs.Prelude.{ℕ, false, ◌||◌, if◌then◌else◌, nat_le, List, [], ◌∷◌, ◌++◌, length, find, is_some, Option, Some, None, Ok}
 use Rattle.ql_parse.specs.declared.statement.Statement.{Statement}
 use Rattle.ql_parse.specs.declared.statement.Statement.TheVariants as s
-use Rattle.ql_value.specs.declared.refusal.TheConstants.{NO_TABLE, EXISTS}
-use Rattle.ql_shell.specs.declared.stepping.TheConstants.{LATER}
+use Rattle.ql_value.specs.declared.refusal.TheConstants.{NO_TABLE, EXISTS, LATER}
 use Rattle.ql_shell.specs.Forms.{is_internal, sole_column, inserted_numbers, shown_table}
 use Rattle.ql_shell.specs.Tables.{Table, Effect, is_named, lines, refused, with_rows}
 use Rattle.ql_shell.specs.declared.tables.TheConstants.{TABLE_LIMIT}

@@ -1,5 +1,6 @@
 pub mod Cause
 pub mod Code
+pub mod Comes
 pub mod Effect
 pub mod Forms
 pub mod Line
