@@ -1,4 +1,4 @@
-//! The command: carries out the script on standard input.
+//! The command: carries out the script that its words hold, or else the one on standard input.
 #![tactic(auto)]
 
 use ql_edge::{HostMachine, warn_all};

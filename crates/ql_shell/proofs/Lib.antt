@@ -1,3 +1,4 @@
+pub mod Examples
 pub mod Giving
 pub mod Meanings
 pub mod Numbers
