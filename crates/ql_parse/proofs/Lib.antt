@@ -13,11 +13,8 @@ pub mod ChainLemmas
 pub mod Loops
 pub mod StepLemmas
 pub mod CursorLemmas
-pub mod Grammar
 pub mod GrammarExamples
 pub mod GrammarLaws
-pub mod Tests
-pub mod Runs
 pub mod PrintingExamples
 pub mod PrintingEquations
 pub mod PlainEquations

@@ -1,6 +1,3 @@
-pub mod Spellings
-pub mod Token
-pub mod First
 pub mod Enclosed
 pub mod Functions
 pub mod Later
