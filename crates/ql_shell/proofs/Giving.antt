@@ -1,32 +1,32 @@
 -- An answer that is given a statement at a time.
-use Rattle.std.proofs.Common.{◌≡◌, ℕ, ◌+◌, ◌<◌, List, [], ◌∷◌, ◌++◌, length, take, Some, None, Ok, Err, ◌⊎◌, inl, inr, option_map, refl, sym, ap, ◌∙◌, append_assoc, append-nil, length-append, arith}
+use Rattle.std.proofs.Common.{◌≡◌, ℕ, ◌+◌, List, [], ◌∷◌, ◌++◌, length, take, Some, None, Ok, Err, ◌⊎◌, inl, inr, option_map, refl, sym, ap, ◌∙◌, append_assoc, append-nil, length-append, arith}
 use Rattle.std.proofs.lemmas.List.{take_all}
 use Rattle.std.proofs.Math.Seq.{take-append-add}
 use Rattle.ql_edge.specs.Told.{Told, with_shown, shown_of, warned_of, ShowsFront}
-use Rattle.ql_parse.specs.declared.first.FirstStatement.{FirstStatement}
+use Rattle.ql_parse.specs.declared.statement.Statement.{Statement}
 use Rattle.ql_value.specs.declared.refusal.Refusal.{Refusal}
-use Rattle.ql_shell.specs.Meaning.{Answer, preceded, onward, meaning, Means, usage, too_long, not_yet, carried_out}
+use Rattle.ql_shell.specs.Meaning.{Answer, preceded, onward, meaning}
 use Rattle.ql_edge.specs.declared.fault.DeviceFault.{DeviceFault}
 use Rattle.ql_edge.specs.declared.fault.DeviceFault.TheVariants as device
 use Rattle.ql_shell.specs.Cause.{status_of, stopped_by}
 use Rattle.ql_shell.specs.declared.step.StepFault.{StepFault}
 use Rattle.ql_shell.specs.declared.step.StepFault.TheVariants as step
 use Rattle.ql_shell.specs.Pieces.{RunsOn}
-use Rattle.ql_shell.specs.Run.{Gives, IsFinal, IsReadingFault}
-use Rattle.ql_shell.specs.Tables.{Table, Effect, effect, text_of}
+use Rattle.ql_shell.specs.Run.{Gives, IsFinal}
+use Rattle.ql_shell.specs.Effect.{effect}
+use Rattle.ql_shell.specs.Tables.{Table, Effect, text_of}
 use Rattle.ql_shell.specs.declared.status.Status.{Status}
 use Rattle.ql_shell.specs.declared.status.Status.TheVariants.{Done, Script, Refused, Usage, Fault, NoMemory}
-use Rattle.ql_shell.specs.declared.status.ScriptFault.TheVariants.{TooLong, NotYet}
-use Rattle.ql_shell.specs.declared.script_run.TheConstants.{SCRIPT_LIMIT}
-use Rattle.ql_shell.proofs.Pieces.{shown_none, shown_twice, front_none, front_longer}
+use Rattle.ql_shell.proofs.Pieces.{shown_none, shown_twice, front_longer}
 
 pub runs_begin : (all : Answer) (told : Told) → RunsOn all told told all
 runs_begin all told = record { done = []; told = sym (shown_none told); whole = refl }
 
 -- a statement was carried out
-pub runs_on : (all : Answer) (before now now' : Told) (number : ℕ) (s : FirstStatement) (ss : List FirstStatement) (tables after : List Table) (text : List ℕ)
-    → RunsOn all before now (meaning number (s ∷ ss) tables) → effect s tables ≡ Ok (text, after) → now' ≡ with_shown text now → RunsOn all before now' (meaning (number + 1) ss after)
-runs_on all before now now' number s ss tables after text h done shown =
+pub runs_on : (all : Answer) (before now now' : Told) (number : ℕ) (items : List Statement) (s : Statement) (ss : List Statement) (tables after : List Table) (text : List ℕ) → items ≡ s ∷ ss
+    → RunsOn all before now (meaning number items tables) → effect s tables ≡ Ok (text, after) → now' ≡ with_shown text now → RunsOn all before now' (meaning (number + 1) ss after)
+runs_on all before now now' number items s ss tables after text e runs done shown =
+    let h : RunsOn all before now (meaning number (s ∷ ss) tables) = rw e at runs in
     let there : meaning number (s ∷ ss) tables ≡ preceded text (meaning (number + 1) ss after) = ap (λ (e : Effect). onward number e (λ after. meaning (number + 1) ss after)) done in
     record {
       done = h.done ++ text;
@@ -35,7 +35,7 @@ runs_on all before now now' number s ss tables after text h done shown =
     }
 
 -- a statement was refused
-pub runs_refused : (all : Answer) (before now now' : Told) (number : ℕ) (s : FirstStatement) (ss : List FirstStatement) (tables : List Table) (r : Refusal)
+pub runs_refused : (all : Answer) (before now now' : Told) (number : ℕ) (s : Statement) (ss : List Statement) (tables : List Table) (r : Refusal)
     → RunsOn all before now (meaning number (s ∷ ss) tables) → effect s tables ≡ Err r → now' ≡ now → Gives all (Refused number r) before now'
 runs_refused all before now now' number s ss tables r h refused same =
     let there : all ≡ preceded h.done (onward number (Err r) (λ after. meaning (number + 1) ss after)) = h.whole ∙ ap (λ (e : Effect). preceded h.done (onward number e (λ after. meaning (number + 1) ss after))) refused in
@@ -47,7 +47,7 @@ text_in_front number (Ok done) more = ((more done.1).text, refl)
 text_in_front number (Err r) more = ([], refl)
 
 -- a statement was cut off
-pub runs_cut : (all : Answer) (before now now' : Told) (number : ℕ) (s : FirstStatement) (ss : List FirstStatement) (tables : List Table)
+pub runs_cut : (all : Answer) (before now now' : Told) (number : ℕ) (s : Statement) (ss : List Statement) (tables : List Table)
     → RunsOn all before now (meaning number (s ∷ ss) tables) → ShowsFront (text_of (effect s tables)) now now' → ShowsFront all.text before now'
 runs_cut all before now now' number s ss tables h part =
     let rest = text_in_front number (effect s tables) (λ after. meaning (number + 1) ss after) in
@@ -111,35 +111,16 @@ final_or_not (Script _) = inl tt
 final_or_not (Refused _ _) = inl tt
 final_or_not (Usage _) = inl tt
 
--- a script that was not read to its end for its length means just that
-pub gives_reading_fault : (answer : Answer) (s : Status) (words : ℕ) (script : List ℕ) (before now : Told) → IsReadingFault s → now ≡ before
-    → (s ≡ Script TooLong → SCRIPT_LIMIT < length script) → words ≡ 0 → Means words script answer → Gives answer s before now
-gives_reading_fault answer Fault words script before now only same long none h = rw same (front_none answer.text before)
-gives_reading_fault answer NoMemory words script before now only same long none h = rw same (front_none answer.text before)
-gives_reading_fault answer (Script TooLong) words script before now only same long none (usage some e) = absurd (omega arith)
-gives_reading_fault answer (Script TooLong) words script before now only same long none (too_long _ over e) = rw e (refl, same ∙ sym (shown_none before))
-gives_reading_fault answer (Script TooLong) words script before now only same long none (not_yet _ within none_reads e) = absurd (omega (arith, long refl))
-gives_reading_fault answer (Script TooLong) words script before now only same long none (carried_out _ within reads e) = absurd (omega (arith, long refl))
-gives_reading_fault answer (Script NotYet) words script before now only same long none h = absurd only
-gives_reading_fault answer Done words script before now only same long none h = absurd only
-gives_reading_fault answer (Refused _ _) words script before now only same long none h = absurd only
-gives_reading_fault answer (Usage _) words script before now only same long none h = absurd only
-
-pub means_reading_fault : (s : Status) (words : ℕ) (script : List ℕ) → IsReadingFault s → IsFinal s → (s ≡ Script TooLong → SCRIPT_LIMIT < length script) → words ≡ 0
-    → (answer : Answer) × Means words script answer × (s ≡ answer.status)
-means_reading_fault Fault words script only final long none = absurd final
-means_reading_fault NoMemory words script only final long none = absurd final
-means_reading_fault (Script TooLong) words script only final long none = (record { text = []; status = Script TooLong }, too_long none (long refl) refl, refl)
-means_reading_fault (Script NotYet) words script only final long none = absurd only
-means_reading_fault Done words script only final long none = absurd only
-means_reading_fault (Refused _ _) words script only final long none = absurd only
-means_reading_fault (Usage _) words script only final long none = absurd only
-
 -- a statement stopped the run
-pub runs_stopped : (all : Answer) (before now now' : Told) (number : ℕ) (s : FirstStatement) (ss : List FirstStatement) (tables : List Table) (fault : StepFault)
-    → RunsOn all before now (meaning number (s ∷ ss) tables)
+pub runs_stopped : (all : Answer) (before now now' : Told) (number : ℕ) (items : List Statement) (s : Statement) (ss : List Statement) (tables : List Table) (fault : StepFault) → items ≡ s ∷ ss
+    → RunsOn all before now (meaning number items tables)
     → ((r : Refusal) → fault ≡ step.Refused r → (effect s tables ≡ Err r) × (now' ≡ now))
     → ((f : DeviceFault) → fault ≡ step.Device f → ShowsFront (text_of (effect s tables)) now now')
     → Gives all (stopped_by number fault) before now'
-runs_stopped all before now now' number s ss tables (step.Refused r) h refused cut = let e = refused r refl in runs_refused all before now now' number s ss tables r h e.0 e.1
-runs_stopped all before now now' number s ss tables (step.Device f) h refused cut = gives_cut all f before now' (runs_cut all before now now' number s ss tables h (cut f refl))
+runs_stopped all before now now' number items s ss tables (step.Refused r) e runs refused cut =
+    let h : RunsOn all before now (meaning number (s ∷ ss) tables) = rw e at runs in
+    let done = refused r refl in
+    runs_refused all before now now' number s ss tables r h done.0 done.1
+runs_stopped all before now now' number items s ss tables (step.Device f) e runs refused cut =
+    let h : RunsOn all before now (meaning number (s ∷ ss) tables) = rw e at runs in
+    gives_cut all f before now' (runs_cut all before now now' number s ss tables h (cut f refl))

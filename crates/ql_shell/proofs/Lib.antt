@@ -1,4 +1,7 @@
 pub mod Giving
+pub mod Meanings
+pub mod Numbers
+pub mod Outcomes
 pub mod Pieces
 pub mod Places
 pub mod Taking

@@ -2,11 +2,13 @@
 use Rattle.std.proofs.Common.{◌≡◌, ℕ, ◌+◌, ◌≤◌, List, [], ◌++◌, length, take, drop, Option, Some, None, Result, Ok, Err, IfErr, IsErrAnd, ◌⊎◌, inl, inr, IfSome, option_map, refl, sym, ap, ◌∙◌, append_assoc, length-append, append-nil, drop-drop, arith}
 use Rattle.std.proofs.lemmas.List.{take-append-drop, drop_all}
 use Rattle.std.proofs.Math.Seq.{drop-append_seam}
-use Rattle.ql_shell.specs.Run.{AddsPiece, Takes}
+use Rattle.ql_shell.specs.Run.{AddsPiece, Takes, TakesAll, TakesInput, EndsScript}
 use Rattle.ql_shell.specs.declared.status.Status.{Status}
 use Rattle.ql_shell.specs.declared.status.Status.TheVariants.{Done, Script, Refused, Usage, Fault, NoMemory}
-use Rattle.ql_shell.specs.declared.status.ScriptFault.TheVariants.{TooLong, NotYet}
+use Rattle.ql_shell.specs.declared.status.ScriptFault.TheVariants.{TooLong, BadByte, BadLiteral, Unclosed, Unexpected, TooNested}
 use Rattle.ql_shell.specs.declared.script_run.TheConstants.{SCRIPT_LIMIT}
+use Rattle.ql_shell.specs.declared.words.Command.{Command}
+use Rattle.ql_shell.specs.declared.words.Command.TheVariants as command
 
 pub piece_added : (source grown out : List ℕ) (n : ℕ) (before now : Option (List ℕ)) → grown ≡ source ++ take n out → now ≡ option_map (drop n) before
     → IfSome before (λ script. take n out ≡ take n script) → AddsPiece source grown before now
@@ -52,7 +54,7 @@ dropped_twice k n (Some script) mid now e f = (k + n, f ∙ ap (option_map (drop
 
 -- a fault or want of memory says only that some of the script was taken
 pub takes_part : {T : Type 0} (r : Result T Status) (s : Status) (before now : Option (List ℕ)) → IsErrAnd r (λ e. e ≡ s) → (s ≡ Fault) ⊎ (s ≡ NoMemory)
-    → (n : ℕ) × (now ≡ option_map (drop n) before) → IfErr r (λ e. Takes e before now)
+    → (n : ℕ) × (now ≡ option_map (drop n) before) → IfErr r (λ e. TakesInput e before now)
 takes_part (Ok _) s before now is which part = absurd is
 takes_part (Err e) s before now is (inl fault) part = let same : e ≡ Fault = is ∙ fault in rw same part
 takes_part (Err e) s before now is (inr memory) part = let same : e ≡ NoMemory = is ∙ memory in rw same part
@@ -66,11 +68,45 @@ drop_whole None now h = (0, h)
 drop_whole (Some script) now h = (length script, h ∙ ap Some (sym (drop_all (length script) script (omega arith))))
 
 -- however much was taken, it was a front of the script
-pub takes_memory : (s : Status) (before now : Option (List ℕ)) → Takes s before now → (n : ℕ) × (now ≡ option_map (drop n) before)
-takes_memory Fault before now h = h
-takes_memory NoMemory before now h = h
-takes_memory (Usage _) before now h = (0, h ∙ sym (drop_none before))
-takes_memory (Script TooLong) before now h = (SCRIPT_LIMIT + 1, h)
-takes_memory (Script NotYet) before now h = drop_whole before now h
-takes_memory Done before now h = drop_whole before now h
-takes_memory (Refused _ _) before now h = drop_whole before now h
+input_memory : (s : Status) (before now : Option (List ℕ)) → TakesInput s before now → (n : ℕ) × (now ≡ option_map (drop n) before)
+input_memory Fault before now h = h
+input_memory NoMemory before now h = h
+input_memory (Usage _) before now h = (0, h ∙ sym (drop_none before))
+input_memory (Script TooLong) before now h = (SCRIPT_LIMIT + 1, h)
+input_memory (Script (BadByte _)) before now h = drop_whole before now h
+input_memory (Script (BadLiteral _)) before now h = drop_whole before now h
+input_memory (Script (Unclosed _)) before now h = drop_whole before now h
+input_memory (Script (Unexpected _)) before now h = drop_whole before now h
+input_memory (Script (TooNested _)) before now h = drop_whole before now h
+input_memory Done before now h = drop_whole before now h
+input_memory (Refused _ _) before now h = drop_whole before now h
+
+pub takes_memory : (asked : Command) (s : Status) (before now : Option (List ℕ)) → Takes asked s before now → Takes asked NoMemory before now
+takes_memory (command.Usage _) s before now h = h
+takes_memory (command.Text _) s before now h = h
+takes_memory command.Input s before now h = input_memory s before now h
+
+-- nothing was read
+pub takes_none : (asked : Command) (before now : Option (List ℕ)) → now ≡ before → Takes asked NoMemory before now
+takes_none (command.Usage _) before now h = h
+takes_none (command.Text _) before now h = h
+takes_none command.Input before now h = (0, h ∙ sym (drop_none before))
+
+-- all of the input was read, and a script that is not too long was carried out
+input_all : (s : Status) (before now : Option (List ℕ)) → EndsScript s → now ≡ option_map (λ _. []) before → TakesInput s before now
+input_all Fault before now ends h = drop_whole before now h
+input_all NoMemory before now ends h = drop_whole before now h
+input_all (Usage _) before now ends h = absurd ends
+input_all (Script TooLong) before now ends h = absurd ends
+input_all (Script (BadByte _)) before now ends h = h
+input_all (Script (BadLiteral _)) before now ends h = h
+input_all (Script (Unclosed _)) before now ends h = h
+input_all (Script (Unexpected _)) before now ends h = h
+input_all (Script (TooNested _)) before now ends h = h
+input_all Done before now ends h = h
+input_all (Refused _ _) before now ends h = h
+
+pub takes_all : (asked : Command) (s : Status) (before now : Option (List ℕ)) → EndsScript s → TakesAll asked before now → Takes asked s before now
+takes_all (command.Usage _) s before now ends h = h
+takes_all (command.Text _) s before now ends h = h
+takes_all command.Input s before now ends h = input_all s before now ends h

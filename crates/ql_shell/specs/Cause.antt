@@ -1,8 +1,15 @@
 -- Which statuses a device's fault is the cause of, and what the count of faults does.
-use Rattle.std.specs.Prelude.{◌≡◌, ℕ, Result, Ok, Err}
+use Rattle.std.specs.Prelude.{◌≡◌, ℕ, List, Result, Ok, Err}
 use Rattle.ql_edge.specs.Cause.{Rose}
 use Rattle.ql_edge.specs.declared.fault.DeviceFault.{DeviceFault}
 use Rattle.ql_edge.specs.declared.fault.DeviceFault.TheVariants as device
+use Rattle.ql_lex.specs.declared.token.LexFault.{LexFault}
+use Rattle.ql_lex.specs.declared.token.LexFault.TheVariants as lex
+use Rattle.ql_lex.specs.declared.token.Token.{Token}
+use Rattle.ql_parse.specs.declared.parse.fault.ParseFault.{ParseFault}
+use Rattle.ql_parse.specs.declared.parse.fault.ParseFault.TheVariants as parse
+use Rattle.ql_shell.specs.Comes.{place_of}
+use Rattle.ql_shell.specs.declared.status.ScriptFault.TheVariants as fault
 use Rattle.ql_shell.specs.declared.status.Status.{Status}
 use Rattle.ql_shell.specs.declared.status.Status.TheVariants as status
 use Rattle.ql_shell.specs.declared.step.StepFault.{StepFault}
@@ -12,6 +19,19 @@ use Rattle.ql_shell.specs.declared.step.StepFault.TheVariants as step
 abbrev pub status_of : DeviceFault → Status
 status_of device.Failed = status.Fault
 status_of device.NoMemory = status.NoMemory
+
+-- the status of a run whose script has no tokens
+abbrev pub status_of_lexing : LexFault → Status
+status_of_lexing (lex.BadByte at) = status.Script (fault.BadByte at)
+status_of_lexing (lex.BadLiteral at) = status.Script (fault.BadLiteral at)
+status_of_lexing (lex.Unclosed at) = status.Script (fault.Unclosed at)
+status_of_lexing lex.NoMemory = status.NoMemory
+
+-- the status of a run whose script has tokens and no statements
+abbrev pub status_of_parsing : List ℕ → List Token → ParseFault → Status
+status_of_parsing source tokens (parse.Unexpected at) = status.Script (fault.Unexpected (place_of source tokens at))
+status_of_parsing source tokens (parse.TooNested at) = status.Script (fault.TooNested (place_of source tokens at))
+status_of_parsing source tokens parse.NoMemory = status.NoMemory
 
 -- the status of a run that a statement of a number stops
 abbrev pub stopped_by : ℕ → StepFault → Status

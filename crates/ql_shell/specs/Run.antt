@@ -1,5 +1,5 @@
 -- What a run promises of the text shown, the line warned and the script read.
-use Rattle.std.specs.Prelude.{◌≡◌, ◌⊎◌, ℕ, ◌+◌, ◌-◌, ◌^◌, ◌<◌, ◌≤◌, min, List, [], ◌++◌, length, take, drop, Option, option_map}
+use Rattle.std.specs.Prelude.{◌≡◌, ◌⊎◌, ℕ, ◌+◌, ◌-◌, ◌^◌, ◌<◌, ◌≤◌, min, List, [], ◌++◌, length, take, drop, Option, option_map, IfSome, IsSome}
 use Rattle.ql_edge.specs.Cause.{Rose}
 use Rattle.ql_edge.specs.Told.{Told, with_shown, ShowsFront}
 use Rattle.ql_shell.specs.Line.{line_of}
@@ -8,6 +8,8 @@ use Rattle.ql_shell.specs.declared.script_run.TheConstants.{SCRIPT_LIMIT}
 use Rattle.ql_shell.specs.declared.status.ScriptFault.TheVariants.{TooLong}
 use Rattle.ql_shell.specs.declared.status.Status.{Status}
 use Rattle.ql_shell.specs.declared.status.Status.TheVariants.{Done, Script, Usage, Fault, NoMemory}
+use Rattle.ql_shell.specs.declared.words.Command.{Command}
+use Rattle.ql_shell.specs.declared.words.Command.TheVariants as command
 
 -- the run was ended neither by a device's fault nor by want of memory
 abbrev pub IsFinal : Status → Type 0
@@ -65,20 +67,68 @@ EndsStatements (Usage _) = ⊥
 EndsStatements (Script _) = ⊥
 EndsStatements _ = Unit {0}
 
--- how much of the script was read: all of it, but for a script that is too long and a run that does not come to read it
-abbrev pub Takes : Status → Option (List ℕ) → Option (List ℕ) → Type 0
-Takes (Usage _) before now = now ≡ before
-Takes (Script TooLong) before now = now ≡ option_map (drop (SCRIPT_LIMIT + 1)) before
-Takes Fault before now = (n : ℕ) × (now ≡ option_map (drop n) before)
-Takes NoMemory before now = (n : ℕ) × (now ≡ option_map (drop n) before)
-Takes _ before now = now ≡ option_map (λ _. []) before
+-- the script is told: by the words, or by the machine where it comes from there
+abbrev pub TellsScript : Command → Option (List ℕ) → Type 0
+TellsScript command.Input input = IsSome input
+TellsScript _ input = Unit {0}
 
--- what may end the reading of a script: it is too long, a device's fault, or want of memory
+-- a script is on hand: that of the words, or what standard input has
+abbrev pub IsScript : Command → Option (List ℕ) → List ℕ → Type 0
+IsScript (command.Usage _) input source = ⊥
+IsScript (command.Text text) input source = text ≡ source
+IsScript command.Input input source = input ≡ option_map (λ _. source) input
+
+-- the script is longer than a script may be
+abbrev pub IsTooLong : Command → Option (List ℕ) → Type 0
+IsTooLong (command.Usage _) input = ⊥
+IsTooLong (command.Text text) input = SCRIPT_LIMIT < length text
+IsTooLong command.Input input = IfSome input (λ script. SCRIPT_LIMIT < length script)
+
+-- what may end a run before there is a script: a word, the script's length, a device's fault, or want of memory
+abbrev pub EndsEarly : Command → Option (List ℕ) → Status → Type 0
+EndsEarly asked input (Usage word) = asked ≡ command.Usage word
+EndsEarly asked input (Script TooLong) = IsTooLong asked input
+EndsEarly asked input Fault = Unit {0}
+EndsEarly asked input NoMemory = Unit {0}
+EndsEarly asked input _ = ⊥
+
+-- how the run of a script ends that is not too long
+abbrev pub EndsScript : Status → Type 0
+EndsScript (Usage _) = ⊥
+EndsScript (Script TooLong) = ⊥
+EndsScript _ = Unit {0}
+
+-- how much of standard input was read for a script: all of it, but for one that is too long, a fault and want of memory
+abbrev pub TakesInput : Status → Option (List ℕ) → Option (List ℕ) → Type 0
+TakesInput (Usage _) before now = now ≡ before
+TakesInput (Script TooLong) before now = now ≡ option_map (drop (SCRIPT_LIMIT + 1)) before
+TakesInput Fault before now = (n : ℕ) × (now ≡ option_map (drop n) before)
+TakesInput NoMemory before now = (n : ℕ) × (now ≡ option_map (drop n) before)
+TakesInput _ before now = now ≡ option_map (λ _. []) before
+
+-- standard input is read only where the script comes from there
+abbrev pub Takes : Command → Status → Option (List ℕ) → Option (List ℕ) → Type 0
+Takes command.Input status before now = TakesInput status before now
+Takes _ status before now = now ≡ before
+
+-- all of standard input was read, where the script comes from there
+abbrev pub TakesAll : Command → Option (List ℕ) → Option (List ℕ) → Type 0
+TakesAll command.Input before now = now ≡ option_map (λ _. []) before
+TakesAll _ before now = now ≡ before
+
+-- what may end the reading of standard input: the script is too long, a device's fault, or want of memory
 abbrev pub IsReadingFault : Status → Type 0
 IsReadingFault (Script TooLong) = Unit {0}
 IsReadingFault Fault = Unit {0}
 IsReadingFault NoMemory = Unit {0}
 IsReadingFault _ = ⊥
+
+-- why a script that is not too long has no statements: its fault, or want of memory
+abbrev pub IsUnread : Status → Type 0
+IsUnread (Script TooLong) = ⊥
+IsUnread (Script _) = Unit {0}
+IsUnread NoMemory = Unit {0}
+IsUnread _ = ⊥
 
 -- what was read grew by what was taken from the rest of the script
 abbrev pub AddsPiece : List ℕ → List ℕ → Option (List ℕ) → Option (List ℕ) → Type 0

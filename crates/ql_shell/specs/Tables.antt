@@ -1,10 +1,7 @@
--- Tables as values, and what a statement does to them.
-use Rattle.std.specs.Prelude.{ℕ, Bool, if◌then◌else◌, List, [], ◌∷◌, ◌++◌, find, flat_map, is_some, Option, Some, None, option_map, Result, Ok, Err, decimal}
+-- Tables as values, and what a statement may do to them.
+use Rattle.std.specs.Prelude.{ℕ, Bool, if◌then◌else◌, List, [], ◌∷◌, ◌++◌, flat_map, Option, Some, None, option_map, Result, Ok, Err, decimal}
 use Rattle.std.specs.Str.{bytes_eq}
-use Rattle.ql_parse.specs.declared.first.FirstStatement.{FirstStatement}
-use Rattle.ql_parse.specs.declared.first.FirstStatement.TheVariants as statement
 use Rattle.ql_value.specs.declared.refusal.Refusal.{Refusal}
-use Rattle.ql_value.specs.declared.refusal.TheConstants.{NO_TABLE, EXISTS}
 
 -- a table: its name, its column, and the numbers in its rows, in the order in which they came
 pub record Table : Type 0 where
@@ -34,17 +31,9 @@ lines numbers = flat_map row_text numbers
 abbrev pub Effect : Type 0
 Effect = Result (List ℕ × List Table) Refusal
 
+-- a refusal, by its number, that names a table or nothing
 abbrev pub refused : ℕ → List ℕ → Effect
 refused number name = Err (record { number = number; name = name })
-
-abbrev pub effect : FirstStatement → List Table → Effect
-effect (statement.Create name column) tables =
-    if is_some (find (is_named name) tables) then refused EXISTS name
-    else Ok ([], tables ++ (record { name = name; column = column; numbers = [] } ∷ []))
-effect (statement.Insert name numbers) tables =
-    elim (with_rows name numbers tables) [ Some after ↦ Ok ([], after) | None ↦ refused NO_TABLE name ]
-effect (statement.Show name) tables =
-    elim (find (is_named name) tables) [ Some table ↦ Ok (lines table.numbers, tables) | None ↦ refused NO_TABLE name ]
 
 -- the text of a statement, which shows nothing where it is refused
 abbrev pub text_of : Effect → List ℕ

@@ -4,7 +4,7 @@ ghost use Rattle.ql_edge.specs.Told.{with_warned, shown_of, warned_of};
 ghost use Rattle.ql_edge.specs.declared.fault.DeviceFault.TheVariants as device;
 ghost use Rattle.ql_shell.specs.Run.{WarnsLine};
 ghost use Rattle.ql_shell.specs.declared.status.Status.TheVariants as ended;
-ghost use Rattle.ql_shell.specs.Line.{refusal_text, line_of};
+ghost use Rattle.ql_shell.specs.Line.{refusal_text, place_line, line_of};
 
 use crate::status::{ScriptFault, Status};
 use ql_edge::{Bytes, DeviceFault, NoMemory, Shows, warn_all};
@@ -30,6 +30,32 @@ fn add_refusal(refusal: &Refusal, out: &mut Bytes) -> Result<(), NoMemory>
     Ok(())
 }
 
+/// Adds the line that says what is wrong at the byte of a place.
+fn add_place(place: u64, what: &[u8], out: &mut Bytes) -> Result<(), NoMemory>
+    ensures { OnOk result (out.new ≡ out.old ++ place_line place what.now) }
+{
+    out.extend(b"ql: byte ")?;
+    add_number(place, out)?;
+    out.extend(b": ")?;
+    out.extend(what)?;
+    out.extend(b"\n")?;
+    Ok(())
+}
+
+/// Adds the line of a script that is refused as a whole.
+fn add_fault(fault: ScriptFault, out: &mut Bytes) -> Result<(), NoMemory>
+    ensures { OnOk result (out.new ≡ out.old ++ line_of (ended.Script fault)) }
+{
+    match fault {
+        ScriptFault::TooLong => out.extend(b"ql: script too long\n"),
+        ScriptFault::BadByte(place) => add_place(place, b"bad byte", out),
+        ScriptFault::BadLiteral(place) => add_place(place, b"bad literal", out),
+        ScriptFault::Unclosed(place) => add_place(place, b"unclosed", out),
+        ScriptFault::Unexpected(place) => add_place(place, b"unexpected", out),
+        ScriptFault::TooNested(place) => add_place(place, b"too nested", out),
+    }
+}
+
 const FAULT_LINE: &[u8] = b"ql: device fault\n";
 
 const MEMORY_LINE: &[u8] = b"ql: out of memory\n";
@@ -40,8 +66,7 @@ fn add_line(status: &Status, out: &mut Bytes) -> Result<(), NoMemory>
 {
     match status {
         Status::Done => {}
-        Status::Script(ScriptFault::TooLong) => out.extend(b"ql: script too long\n")?,
-        Status::Script(ScriptFault::NotYet) => out.extend(b"ql: not yet\n")?,
+        Status::Script(fault) => add_fault(*fault, out)?,
         Status::Refused { statement, refusal } => {
             out.extend(b"ql: statement ")?;
             add_number(*statement, out)?;

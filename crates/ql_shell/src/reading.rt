@@ -1,6 +1,6 @@
 ghost use Rattle.std.specs.Prelude.{◌≡◌, ◌⊎◌, ℕ, ◌+◌, ◌<◌, ◌≤◌, [], true, false, length, drop, option_map, Err, IfOk, OnOk, OnErr, IfErr, IfSome};
 ghost use Rattle.ql_shell.specs.Cause.{IsCausedReading};
-ghost use Rattle.ql_shell.specs.Run.{AddsPiece, Takes, IsReadingFault};
+ghost use Rattle.ql_shell.specs.Run.{AddsPiece, TakesInput, IsReadingFault};
 ghost use Rattle.ql_shell.specs.declared.script_run.TheConstants.{SCRIPT_LIMIT};
 ghost use Rattle.ql_shell.specs.declared.status.ScriptFault.TheVariants.{TooLong};
 ghost use Rattle.ql_shell.specs.declared.status.Status.TheVariants as status;
@@ -55,7 +55,7 @@ fn read_pieces<M: Machine>(
     ensures within { OnOk result (length source.new ≤ SCRIPT_LIMIT) }
     ensures end { OnOk result (M.left machine.new ≡ option_map (λ _. []) (M.left machine.old)) }
     ensures too_long { result ≡ Err (status.Script TooLong) → IfSome (M.left machine.old) (λ script. SCRIPT_LIMIT < length script) }
-    ensures takes { IfErr result (λ s. Takes s (M.left machine.old) (M.left machine.new)) }
+    ensures takes { IfErr result (λ s. TakesInput s (M.left machine.old) (M.left machine.new)) }
     ensures only { IfErr result IsReadingFault }
     ensures told { M.told machine.new ≡ M.told machine.old }
     ensures fixed { M.fixed machine.new ≡ M.fixed machine.old }
@@ -77,7 +77,7 @@ pub fn read_script<M: Machine>(alloc: Global, machine: &mut M) -> Result<Bytes, 
     ensures within { IfOk result (λ source. length source ≤ SCRIPT_LIMIT) }
     ensures end { OnOk result (M.left machine.new ≡ option_map (λ _. []) (M.left machine.old)) }
     ensures too_long { result ≡ Err (status.Script TooLong) → IfSome (M.left machine.old) (λ script. SCRIPT_LIMIT < length script) }
-    ensures takes { IfErr result (λ s. Takes s (M.left machine.old) (M.left machine.new)) }
+    ensures takes { IfErr result (λ s. TakesInput s (M.left machine.old) (M.left machine.new)) }
     ensures only { IfErr result IsReadingFault }
     ensures told { M.told machine.new ≡ M.told machine.old }
     ensures fixed { M.fixed machine.new ≡ M.fixed machine.old }

@@ -1,18 +1,27 @@
-ghost use Rattle.std.specs.Prelude.{◌≡◌, ◌⊎◌, ℕ, ◌<◌, List, [], Some, vec_len};
+ghost use Rattle.std.specs.Prelude.{◌≡◌, ◌⊎◌, ℕ, ◌<◌, ◌≤◌, List, [], length, map, Result, Err, IfOk, IfErr, OnOk};
+ghost use Rattle.std.specs.String.{string_bytes};
 ghost use Rattle.ql_edge.specs.Cause.{Rose};
 ghost use Rattle.ql_edge.specs.Told.{shown_of, warned_of};
-ghost use Rattle.ql_shell.specs.Cause.{IsCausedStatus, stopped_by};
-ghost use Rattle.ql_shell.specs.Meaning.{Answer, meaning, Means};
-ghost use Rattle.ql_shell.specs.Run.{IsFinal, Gives, Warns, IsFrontShown, IsShown, IsRefusedWhole, EndsStatements, Takes};
+ghost use Rattle.ql_parse.specs.declared.statement.Statement.{Statement};
+ghost use Rattle.ql_shell.specs.Cause.{IsCausedReading, IsCausedStatus, stopped_by};
+ghost use Rattle.ql_shell.specs.Comes.{Comes};
+ghost use Rattle.ql_shell.specs.Meaning.{Answer, answer_of, meaning, Means};
+ghost use Rattle.ql_shell.specs.Run.{IsFinal, Gives, Warns, IsFrontShown, IsShown, IsRefusedWhole, EndsEarly, EndsScript, EndsStatements, IsScript, TellsScript, Takes, TakesAll};
+ghost use Rattle.ql_shell.specs.Words.{command_of};
+ghost use Rattle.ql_shell.specs.declared.status.ScriptFault.{ScriptFault};
+ghost use Rattle.ql_shell.specs.declared.status.ScriptFault.TheVariants as fault;
 ghost use Rattle.ql_shell.specs.declared.status.Status.TheVariants as ended;
+ghost use Rattle.ql_shell.specs.declared.words.Command.TheVariants as asked;
 
 use crate::line::warn;
+use crate::parsing::read_statements;
 use crate::reading::read_script;
 use crate::status::{ScriptFault, Status};
 use crate::step::{StepFault, step};
 use crate::tables::Tables;
-use ql_edge::{Machine, Shows};
-use ql_parse::{FirstFault, FirstStatements, first_script};
+use crate::words::{Command, read_words};
+use ql_edge::{Bytes, Machine, Shows};
+use ql_parse::Statements;
 use std::alloc::Global;
 
 /// How many bytes a script has at most.
@@ -29,7 +38,7 @@ fn stopped(statement: u64, fault: StepFault) -> Status
 }
 
 /// Carries out statements in turn, from no tables, up to the first that is refused.
-fn carry_out<M: Shows>(alloc: Global, machine: &mut M, statements: FirstStatements) -> Status
+fn carry_out<M: Shows>(alloc: Global, machine: &mut M, statements: Statements) -> Status
     ensures gives { Gives (meaning 1 statements []) result (M.told machine.old) (M.told machine.new) }
     ensures warned { warned_of (M.told machine.new) ≡ warned_of (M.told machine.old) }
     ensures ends { EndsStatements result }
@@ -41,7 +50,7 @@ fn carry_out<M: Shows>(alloc: Global, machine: &mut M, statements: FirstStatemen
     let mut number = 0;
     'statements: for statement in statements.into_vec() {
         number += 1;
-        match step(alloc, &mut tables, machine, statement) {
+        match step(alloc, &mut tables, machine, &statement) {
             Ok(()) => {}
             Err(fault) => return stopped(number, fault),
         }
@@ -49,57 +58,122 @@ fn carry_out<M: Shows>(alloc: Global, machine: &mut M, statements: FirstStatemen
     Status::Done
 }
 
-/// Reads the script and carries it out, where there are no words.
-fn answer<M: Machine>(alloc: Global, words: usize, machine: &mut M) -> Status
-    ensures gives { (script : List ℕ) (answer : Answer) → M.left machine.old ≡ Some script → Means words script answer → Gives answer result (M.told machine.old) (M.told machine.new) }
-    ensures means { (script : List ℕ) → M.left machine.old ≡ Some script → IsFinal result → (answer : Answer) × Means words script answer × (result ≡ answer.status) }
-    ensures usage { 0 < words → result ≡ ended.Usage 1 }
-    ensures usage_only { (word : ℕ) → result ≡ ended.Usage word → (0 < words) × (word ≡ 1) }
+/// Carries out a script that is not too long.
+fn answer_script<M: Shows>(alloc: Global, machine: &mut M, source: &[u8]) -> Status
+    requires { length source.now ≤ SCRIPT_LIMIT }
+    ensures gives { (outcome : Result (List Statement) ScriptFault) → Comes source.now outcome → Gives (answer_of outcome) result (M.told machine.old) (M.told machine.new) }
+    ensures means { IsFinal result → (outcome : Result (List Statement) ScriptFault) × Comes source.now outcome × (result ≡ (answer_of outcome).status) }
     ensures silent { IsRefusedWhole result → M.told machine.new ≡ M.told machine.old }
     ensures warned { warned_of (M.told machine.new) ≡ warned_of (M.told machine.old) }
-    ensures takes { Takes result (M.left machine.old) (M.left machine.new) }
+    ensures ends { EndsScript result }
+    ensures left { M.left machine.new ≡ M.left machine.old }
     ensures fixed { M.fixed machine.new ≡ M.fixed machine.old }
     ensures cause { IsCausedStatus result (M.faults machine.old) (M.faults machine.new) }
 {
-    if words > 0 {
-        return Status::Usage { word: 1 };
-    }
-    let source = match read_script(alloc, machine) {
-        Ok(source) => source,
-        Err(status) => return status,
-    };
-    match first_script(alloc, source.as_slice()) {
+    match read_statements(alloc, source) {
         Ok(statements) => carry_out(alloc, machine, statements),
-        Err(FirstFault::NotYet) => Status::Script(ScriptFault::NotYet),
-        Err(FirstFault::NoMemory) => Status::NoMemory,
+        Err(status) => status,
     }
 }
 
-/// Carries out the script of a machine, and warns how the run ended. The words are those behind the program's name.
+/// The text of the words, where it is not too long.
+fn checked(text: Bytes) -> Result<Bytes, Status>
+    ensures ok { IfOk result (λ source. (source ≡ text) × (length source ≤ SCRIPT_LIMIT)) }
+    ensures too_long { IfErr result (λ s. (s ≡ ended.Script fault.TooLong) × (SCRIPT_LIMIT < length text)) }
+{
+    if text.len() > SCRIPT_LIMIT {
+        return Err(Status::Script(ScriptFault::TooLong));
+    }
+    Ok(text)
+}
+
+/// Takes the script that a run carries out: the text of the words, or what standard input has.
+fn take_script<M: Machine>(
+    alloc: Global,
+    command: Command,
+    machine: &mut M,
+) -> Result<Bytes, Status>
+    ensures usage { (word : ℕ) → command ≡ asked.Usage word → result ≡ Err (ended.Usage word) }
+    ensures script { IfOk result (IsScript command (M.left machine.old)) }
+    ensures within { IfOk result (λ source. length source ≤ SCRIPT_LIMIT) }
+    ensures all { OnOk result (TakesAll command (M.left machine.old) (M.left machine.new)) }
+    ensures ends { IfErr result (EndsEarly command (M.left machine.old)) }
+    ensures takes { IfErr result (λ s. Takes command s (M.left machine.old) (M.left machine.new)) }
+    ensures told { M.told machine.new ≡ M.told machine.old }
+    ensures fixed { M.fixed machine.new ≡ M.fixed machine.old }
+    ensures cause { IsCausedReading result (M.faults machine.old) (M.faults machine.new) }
+{
+    match command {
+        Command::Usage(word) => Err(Status::Usage { word }),
+        Command::Text(text) => checked(text),
+        Command::Input => read_script(alloc, machine),
+    }
+}
+
+/// Does what the words ask for.
+fn answer_command<M: Machine>(alloc: Global, command: Command, machine: &mut M) -> Status
+    ensures gives { (answer : Answer) → Means command (M.left machine.old) answer → Gives answer result (M.told machine.old) (M.told machine.new) }
+    ensures means { TellsScript command (M.left machine.old) → IsFinal result → (answer : Answer) × Means command (M.left machine.old) answer × (result ≡ answer.status) }
+    ensures usage { (word : ℕ) → command ≡ asked.Usage word → result ≡ ended.Usage word }
+    ensures usage_only { (word : ℕ) → result ≡ ended.Usage word → command ≡ asked.Usage word }
+    ensures silent { IsRefusedWhole result → M.told machine.new ≡ M.told machine.old }
+    ensures warned { warned_of (M.told machine.new) ≡ warned_of (M.told machine.old) }
+    ensures takes { Takes command result (M.left machine.old) (M.left machine.new) }
+    ensures fixed { M.fixed machine.new ≡ M.fixed machine.old }
+    ensures cause { IsCausedStatus result (M.faults machine.old) (M.faults machine.new) }
+{
+    match take_script(alloc, command, machine) {
+        Ok(source) => answer_script(alloc, machine, source.as_slice()),
+        Err(status) => status,
+    }
+}
+
+/// Reads the words, and does what they ask for.
+fn answer<M: Machine>(alloc: Global, words: &[String], machine: &mut M) -> Status
+    ensures gives { (answer : Answer) → Means (command_of (map string_bytes words.now)) (M.left machine.old) answer → Gives answer result (M.told machine.old) (M.told machine.new) }
+    ensures means { TellsScript (command_of (map string_bytes words.now)) (M.left machine.old) → IsFinal result
+        → (answer : Answer) × Means (command_of (map string_bytes words.now)) (M.left machine.old) answer × (result ≡ answer.status) }
+    ensures usage { (word : ℕ) → command_of (map string_bytes words.now) ≡ asked.Usage word → (result ≡ ended.Usage word) ⊎ (result ≡ ended.NoMemory) }
+    ensures usage_only { (word : ℕ) → result ≡ ended.Usage word → command_of (map string_bytes words.now) ≡ asked.Usage word }
+    ensures silent { IsRefusedWhole result → M.told machine.new ≡ M.told machine.old }
+    ensures warned { warned_of (M.told machine.new) ≡ warned_of (M.told machine.old) }
+    ensures takes { Takes (command_of (map string_bytes words.now)) result (M.left machine.old) (M.left machine.new) }
+    ensures fixed { M.fixed machine.new ≡ M.fixed machine.old }
+    ensures cause { IsCausedStatus result (M.faults machine.old) (M.faults machine.new) }
+{
+    match read_words(alloc, words) {
+        Ok(command) => answer_command(alloc, command, machine),
+        Err(_) => Status::NoMemory,
+    }
+}
+
+/// Carries out a script, and warns how the run ended. The words are those behind the program's name: they hold the
+/// script, or it is what the machine reads.
 ///
 /// The machine comes back with all that happened to it.
 pub fn run<M: Machine>(alloc: Global, words: &Vec<String>, machine: M) -> (M, Status)
-    // What is shown is a front of the text that the script means.
-    ensures shown { (script : List ℕ) (answer : Answer) → M.left machine ≡ Some script → Means (vec_len words.now) script answer
+    // What is shown is a front of the text that the words and the script mean.
+    ensures shown { (answer : Answer) → Means (command_of (map string_bytes words.now.items)) (M.left machine) answer
         → IsFrontShown answer.text (shown_of (M.told machine)) (shown_of (M.told result.0)) }
 
     // Without a fault and want of memory, all of the text is shown, and the status is the script's own.
-    ensures whole { (script : List ℕ) → M.left machine ≡ Some script → IsFinal result.1
-        → (answer : Answer) × Means (vec_len words.now) script answer × (result.1 ≡ answer.status) × IsShown answer.text (shown_of (M.told machine)) (shown_of (M.told result.0)) }
-    ensures answered { (script : List ℕ) (answer : Answer) → M.left machine ≡ Some script → Means (vec_len words.now) script answer
+    ensures whole { TellsScript (command_of (map string_bytes words.now.items)) (M.left machine) → IsFinal result.1
+        → (answer : Answer) × Means (command_of (map string_bytes words.now.items)) (M.left machine) answer × (result.1 ≡ answer.status)
+        × IsShown answer.text (shown_of (M.told machine)) (shown_of (M.told result.0)) }
+    ensures answered { (answer : Answer) → Means (command_of (map string_bytes words.now.items)) (M.left machine) answer
         → (result.1 ≡ answer.status) ⊎ (result.1 ≡ ended.Fault) ⊎ (result.1 ≡ ended.NoMemory) }
 
     // The rest holds of every machine, whatever it tells.
-    ensures usage { 0 < vec_len words.now → (result.1 ≡ ended.Usage 1) ⊎ (result.1 ≡ ended.NoMemory) }
-    ensures usage_only { (word : ℕ) → result.1 ≡ ended.Usage word → (0 < vec_len words.now) × (word ≡ 1) }
+    ensures usage { (word : ℕ) → command_of (map string_bytes words.now.items) ≡ asked.Usage word → (result.1 ≡ ended.Usage word) ⊎ (result.1 ≡ ended.NoMemory) }
+    ensures usage_only { (word : ℕ) → result.1 ≡ ended.Usage word → command_of (map string_bytes words.now.items) ≡ asked.Usage word }
     ensures silent { IsRefusedWhole result.1 → shown_of (M.told result.0) ≡ shown_of (M.told machine) }
     ensures warned { Warns result.1 (warned_of (M.told machine)) (warned_of (M.told result.0)) (M.faults machine) (M.faults result.0) }
     ensures fault { result.1 ≡ ended.Fault → Rose (M.faults machine) (M.faults result.0) }
-    ensures reads { Takes result.1 (M.left machine) (M.left result.0) }
+    ensures reads { Takes (command_of (map string_bytes words.now.items)) result.1 (M.left machine) (M.left result.0) }
     ensures fixed { M.fixed result.0 ≡ M.fixed machine }
 {
     let mut machine = machine;
-    let status = answer(alloc, words.len(), &mut machine);
+    let status = answer(alloc, words.as_slice(), &mut machine);
     let status = warn(alloc, &mut machine, status);
     (machine, status)
 }

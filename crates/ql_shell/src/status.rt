@@ -7,13 +7,21 @@ ghost use Rattle.ql_shell.specs.declared.status.Status.TheVariants as status;
 use ql_edge::{DeviceFault, NoMemory};
 use ql_value::Refusal;
 
-/// Why a script was refused as a whole.
+/// Why a script was refused as a whole. The number is the place of a byte, counted from 0.
 #[derive(Clone, Copy, Debug, PartialEq, Eq)]
 pub enum ScriptFault {
     /// It has more bytes than a script may have.
     TooLong,
-    /// It is not in the part of the language that is built so far.
-    NotYet,
+    /// No token begins with this byte.
+    BadByte(u64),
+    /// The number, the identifier or the string that begins here is none.
+    BadLiteral(u64),
+    /// The string or the comment that begins here has no end.
+    Unclosed(u64),
+    /// The token that begins here is not expected. The script's length stands for an end that comes too early.
+    Unexpected(u64),
+    /// The bracket here is one more than may be open at once.
+    TooNested(u64),
 }
 
 /// How a run ended.

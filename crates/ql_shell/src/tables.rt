@@ -1,4 +1,4 @@
-ghost use Rattle.std.specs.Prelude.{◌≡◌, [], ◌∷◌, ◌++◌, false, None, Some, IfOk, OnOk, MatchBool, MatchOption, is_some, find, position, flat_map};
+ghost use Rattle.std.specs.Prelude.{◌≡◌, [], ◌∷◌, ◌++◌, false, None, Some, IfOk, OnOk, MatchBool, MatchOption, length, is_some, find, position, flat_map};
 ghost use Rattle.std.specs.Str.{bytes_eq};
 ghost use Rattle.ql_shell.specs.Tables as value;
 ghost use Rattle.ql_shell.specs.Tables.{is_named, with_rows};
@@ -6,6 +6,9 @@ ghost use Rattle.ql_shell.specs.Tables.{is_named, with_rows};
 use ql_edge::{Items, Name, NoMemory, Numbers};
 use std::alloc::Global;
 use std::marker::Model;
+
+/// How many tables there are at most.
+pub const TABLE_LIMIT: usize = 4096;
 
 /// The rows of a table, in the pieces in which they came.
 #[derive(Debug, Drop)]
@@ -55,6 +58,12 @@ impl Tables {
             alloc,
             tables: Vec::new(alloc),
         }
+    }
+
+    pub fn len(&self) -> usize
+        ensures { result ≡ length self.now }
+    {
+        self.tables.len()
     }
 
     /// Whether there is a table of this name.

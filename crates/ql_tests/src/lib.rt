@@ -2,8 +2,6 @@
 #![tactic(auto)]
 
 #[cfg(test)]
-mod grammar;
-#[cfg(test)]
 mod machine;
 #[cfg(test)]
 mod made;
@@ -11,3 +9,7 @@ mod made;
 mod print;
 #[cfg(test)]
 mod script;
+#[cfg(test)]
+mod statements;
+#[cfg(test)]
+mod words;

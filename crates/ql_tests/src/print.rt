@@ -1,7 +1,7 @@
 use crate::made::bytes;
 use ql_edge::{Boxed, Bytes, Name, NoMemory};
 use ql_parse::{ColumnDef, ColumnDefs, Expr, Link, Links, Statement, print_expr, print_statement};
-use ql_value::{BinOp, Kind, UnOp, UnOps, print_number, print_text};
+use ql_value::{BinOp, Kind, UnOp, UnOps, Value, print_number, print_text, print_value};
 use std::alloc::Global;
 use std::test::Fail;
 
@@ -79,6 +79,18 @@ fn prints_an_expression(rt: HostRuntime) -> Result<(), Fail> {
     print_text(b" \"\x01", &mut out)?;
     print_number(18446744073709551615, &mut out)?;
     let want = b"- -(5) != NULL\" \\\"\\x01\"18446744073709551615";
+    assert_eq!(rt; out.as_slice(), want.as_slice());
+    Ok(())
+}
+
+#[test]
+fn prints_numbers(rt: HostRuntime) -> Result<(), Fail> {
+    let mut out = Bytes::new(rt.alloc());
+    for number in [0, -1, 42, 18446744073709551615, -9223372036854775808] {
+        print_value(&Value::Int(Kind::Int64, number), &mut out)?;
+        out.push(b' ')?;
+    }
+    let want = b"0 -1 42 18446744073709551615 -9223372036854775808 ";
     assert_eq!(rt; out.as_slice(), want.as_slice());
     Ok(())
 }

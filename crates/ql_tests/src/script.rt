@@ -2,7 +2,7 @@ ghost use Rattle.std.specs.Prelude.{◌<◌};
 
 use crate::made::{bytes, failing, sound};
 use ql_edge::{Bytes, MemMachine, NoMemory};
-use ql_shell::{Status, code, run};
+use ql_shell::{code, run};
 use std::alloc::Global;
 use std::process::Abort;
 use std::test::Fail;
@@ -18,7 +18,7 @@ struct Row {
     status: u8,
 }
 
-const ROWS: [Row; 6] = [
+const ROWS: [Row; 13] = [
     Row {
         script: TWO_ROWS,
         shown: b"1\n2\n",
@@ -46,13 +46,55 @@ const ROWS: [Row; 6] = [
     Row {
         script: b"CREATE TABLE t (a int64); INSERT INTO t VALUES (1, 2);",
         shown: b"",
-        warned: b"ql: not yet\n",
+        warned: b"ql: statement 2: 10 Later\n",
         status: 1,
     },
     Row {
         script: b"SELECT 1;",
         shown: b"",
-        warned: b"ql: not yet\n",
+        warned: b"ql: statement 1: 10 Later\n",
+        status: 1,
+    },
+    Row {
+        script: b"/* one */ create table t (a int,); INSERT INTO t VALUES (0x10),; SELECT * FROM t, -- two",
+        shown: b"16\n",
+        warned: b"",
+        status: 0,
+    },
+    Row {
+        script: b"CREATE TABLE t (a int64); ; SELECT * FROM t; INSERT INTO u VALUES (9223372036854775808);",
+        shown: b"",
+        warned: b"ql: statement 3: 10 Later\n",
+        status: 1,
+    },
+    Row {
+        script: b"SELECT #",
+        shown: b"",
+        warned: b"ql: byte 7: bad byte\n",
+        status: 1,
+    },
+    Row {
+        script: b"SELECT 18446744073709551616;",
+        shown: b"",
+        warned: b"ql: byte 7: bad literal\n",
+        status: 1,
+    },
+    Row {
+        script: b"SELECT \"a",
+        shown: b"",
+        warned: b"ql: byte 7: unclosed\n",
+        status: 1,
+    },
+    Row {
+        script: b"SELECT FROM t;",
+        shown: b"",
+        warned: b"ql: byte 7: unexpected\n",
+        status: 1,
+    },
+    Row {
+        script: b"CREATE TABLE t (a int64); SELECT * FROM ",
+        shown: b"",
+        warned: b"ql: byte 40: unexpected\n",
         status: 1,
     },
 ];
@@ -76,20 +118,6 @@ fn carries_out_scripts(rt: HostRuntime) -> Result<(), Fail> {
     for row in &ROWS {
         carry_out(&rt, row)?;
     }
-    Ok(())
-}
-
-#[test]
-fn refuses_words(rt: HostRuntime) -> Result<(), Fail> {
-    let words = vec![in rt.alloc(); String::from_str(rt.alloc(), "x")?]?;
-    let (machine, status) = run(rt.alloc(), &words, sound(rt.alloc(), TWO_ROWS)?);
-    assert!(rt; matches!(&status, Status::Usage { word: 1 }));
-    assert_eq!(rt; code(&status), 2);
-    assert_eq!(rt; machine.shown().len(), 0);
-    assert_eq!(rt;
-        machine.warned().as_slice(),
-        b"ql: usage, word 1\n".as_slice()
-    );
     Ok(())
 }
 
@@ -164,10 +192,42 @@ fn makes_4096_tables_at_most(rt: HostRuntime) -> Result<(), Fail> {
     let most = tables(rt.alloc(), 4096)?;
     let (_, status) = after(rt.alloc(), sound(rt.alloc(), most.as_slice())?);
     assert_eq!(rt; status, 0);
-    let more = tables(rt.alloc(), 4097)?;
+    let mut more = most;
+    more.extend(b"CREATE TABLE t0 (a int64);")?;
     let (machine, status) = after(rt.alloc(), sound(rt.alloc(), more.as_slice())?);
     assert_eq!(rt; status, 1);
-    assert_eq!(rt; machine.warned().as_slice(), b"ql: not yet\n".as_slice());
+    assert_eq!(rt;
+        machine.warned().as_slice(),
+        b"ql: statement 4097: 10 Later\n".as_slice()
+    );
+    Ok(())
+}
+
+/// `SELECT 1`, with the number in so many brackets.
+fn nested(alloc: Global, brackets: u32) -> Result<Bytes, NoMemory> {
+    let mut script = bytes(alloc, b"SELECT ")?;
+    for _ in 0..brackets {
+        script.push(b'(')?;
+    }
+    script.push(b'1')?;
+    for _ in 0..brackets {
+        script.push(b')')?;
+    }
+    Ok(script)
+}
+
+/// What is warned for a script.
+fn warned(alloc: Global, script: &Bytes) -> Result<Bytes, NoMemory> {
+    let (machine, _) = after(alloc, sound(alloc, script.as_slice())?);
+    bytes(alloc, machine.warned().as_slice())
+}
+
+#[test]
+fn opens_200_brackets_at_most(rt: HostRuntime) -> Result<(), Fail> {
+    let most = warned(rt.alloc(), &nested(rt.alloc(), 200)?)?;
+    assert_eq!(rt; most.as_slice(), b"ql: statement 1: 10 Later\n".as_slice());
+    let more = warned(rt.alloc(), &nested(rt.alloc(), 201)?)?;
+    assert_eq!(rt; more.as_slice(), b"ql: byte 207: too nested\n".as_slice());
     Ok(())
 }
 

@@ -6,7 +6,6 @@ use Rattle.ql_shell.proofs.script_run.carry_out.Goals as goal
 pub statements-preserved : goal.statements-preserved
 statements-preserved g c =
     let steps = c.in-Some.ensures.steps in
-    let runs = rw steps.0 at c.statements.invariant.runs in
     let done = c.in-Ok.ensures.done in
     record {
       can_next = tt;
@@ -14,7 +13,7 @@ statements-preserved g c =
       items = omega (arith, ap length steps.0, steps.1, c.statements.invariant.items);
       counted = omega (arith, steps.1, c.statements.invariant.counted);
       small = c.statements.invariant.small;
-      runs = runs_on _ _ _ _ (c.statements.number + 1) c.in-Some.statement _ c.statements.tables _ done.0 runs done.1 done.2;
+      runs = runs_on _ _ _ _ (c.statements.number + 1) _ c.in-Some.statement _ c.statements.tables _ done.0 steps.0 c.statements.invariant.runs done.1 done.2;
       left = c.in-Ok.ensures.left ∙ c.statements.invariant.left;
       fixed = c.in-Ok.ensures.fixed ∙ c.statements.invariant.fixed;
       faults = c.in-Ok.ensures.cause ∙ c.statements.invariant.faults;
@@ -23,6 +22,5 @@ statements-preserved g c =
 pub returns-in-Err-clause-gives : goal.returns-in-Err-clause-gives
 returns-in-Err-clause-gives g c =
     let steps = c.in-Some.ensures.steps in
-    let runs = rw steps.0 at c.statements.invariant.runs in
-    rw c.stopped.ensures (runs_stopped (meaning 1 c.args.statements []) _ _ _ (c.statements.number + 1) c.in-Some.statement _ c.statements.tables c.in-Err.fault runs
+    rw c.stopped.ensures (runs_stopped (meaning 1 c.args.statements []) _ _ _ (c.statements.number + 1) _ c.in-Some.statement _ c.statements.tables c.in-Err.fault steps.0 c.statements.invariant.runs
     (λ r e. c.in-Err.ensures.refused r (ap Err e)) (λ f e. c.in-Err.ensures.fault f (ap Err e)))

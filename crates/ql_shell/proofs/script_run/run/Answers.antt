@@ -7,27 +7,27 @@ use Rattle.ql_shell.proofs.Taking.{takes_memory}
 use Rattle.ql_shell.proofs.script_run.run.Goals as goal
 
 pub returns-clause-shown : goal.returns-clause-shown
-returns-clause-shown g c script answer told means =
-    let front = gives_front answer c.answer-status.result _ _ (c.answer-status.ensures.gives script answer told (rw c.len.ensures means)) in
+returns-clause-shown g c answer means =
+    let front = gives_front answer c.answer-status.result _ _ (c.answer-status.ensures.gives answer (rw c.as_slice.ensures.value means)) in
     (front.count, front.within, c.warn-status.ensures.shown ∙ ap shown_of front.told ∙ shown_with_shown (take front.count answer.text) (g.M.Shows.told c.args.machine))
 
 pub returns-clause-whole : goal.returns-clause-whole
-returns-clause-whole g c script told final =
+returns-clause-whole g c tells final =
     elim c.warn-status.ensures.same [
       | inl same ↦
           let status_final : IsFinal c.answer-status.result = rw same at final in
-          let means = c.answer-status.ensures.means script told status_final in
-          let given = gives_whole means.0 c.answer-status.result _ _ status_final (c.answer-status.ensures.gives script means.0 told means.1) in
-          (means.0, rw (← c.len.ensures) means.1, same ∙ means.2, c.warn-status.ensures.shown ∙ ap shown_of given.1 ∙ shown_with_shown means.0.text (g.M.Shows.told c.args.machine))
+          let means = c.answer-status.ensures.means (rw c.as_slice.ensures.value tells) status_final in
+          let given = gives_whole means.0 c.answer-status.result _ _ status_final (c.answer-status.ensures.gives means.0 means.1) in
+          (means.0, rw (← c.as_slice.ensures.value) means.1, same ∙ means.2, c.warn-status.ensures.shown ∙ ap shown_of given.1 ∙ shown_with_shown means.0.text (g.M.Shows.told c.args.machine))
       | inr memory ↦ let not_final : IsFinal NoMemory = rw memory at final in absurd not_final
     ]
 
 pub returns-clause-answered : goal.returns-clause-answered
-returns-clause-answered g c script answer told means =
+returns-clause-answered g c answer means =
     elim c.warn-status.ensures.same [
       | inl same ↦
           elim (final_or_not c.answer-status.result) [
-            | inl final ↦ inl (same ∙ (gives_whole answer c.answer-status.result _ _ final (c.answer-status.ensures.gives script answer told (rw c.len.ensures means))).0)
+            | inl final ↦ inl (same ∙ (gives_whole answer c.answer-status.result _ _ final (c.answer-status.ensures.gives answer (rw c.as_slice.ensures.value means))).0)
             | inr ended ↦ inr (elim ended [ inl fault ↦ inl (same ∙ fault) | inr memory ↦ inr (same ∙ memory) ])
           ]
       | inr memory ↦ inr (inr memory)
@@ -35,7 +35,8 @@ returns-clause-answered g c script answer told means =
 
 pub returns-clause-reads : goal.returns-clause-reads
 returns-clause-reads g c =
+    let takes = rw c.as_slice.ensures.value at c.answer-status.ensures.takes in
     elim c.warn-status.ensures.same [
-      | inl same ↦ rw (same, c.warn-status.ensures.left) c.answer-status.ensures.takes
-      | inr memory ↦ rw (memory, c.warn-status.ensures.left) (takes_memory c.answer-status.result _ _ c.answer-status.ensures.takes)
+      | inl same ↦ rw (same, c.warn-status.ensures.left) takes
+      | inr memory ↦ rw (memory, c.warn-status.ensures.left) (takes_memory _ c.answer-status.result _ _ takes)
     ]
