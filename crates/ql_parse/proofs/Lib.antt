@@ -1,3 +1,6 @@
+pub mod Answering
+pub mod StatementLemmas
+pub mod ReadBack
 pub mod SelectLemmas
 pub mod PredicateLemmas
 pub mod CallLemmas
@@ -47,3 +50,9 @@ pub mod SoundInk
 pub mod SoundTokens
 pub mod SoundParts
 pub mod SoundSelects
+pub mod Fits
+pub mod SoundPrimaries
+pub mod SoundLevels
+pub mod SoundQueries
+pub mod SoundForms
+pub mod SoundStatements

@@ -1,16 +1,14 @@
 -- Printed parts whose tokens are cut off as themselves, whatever stands behind them.
-use Rattle.std.proofs.Common.{◌≡◌, ℕ, ◌+◌, ◌≤◌, Bool, true, false, List, [], ◌∷◌, ◌++◌, length, map, refl, sym, ap, ◌∙◌, append_assoc, arith}
-use Rattle.std.specs.Prelude.{◌==◌, ◌&&◌, not, flat_map}
+use Rattle.std.proofs.Common.{◌≡◌, ℕ, true, List, [], ◌∷◌, ◌++◌, map, refl, append_assoc}
+use Rattle.std.specs.Prelude.{flat_map}
 use Rattle.std.specs.Char.{to_ascii_uppercase}
-use Rattle.ql_lex.specs.declared.marks.Mark.{Mark}
 use Rattle.ql_lex.specs.declared.marks.Mark.TheVariants as m
 use Rattle.ql_lex.specs.declared.words.Word.{Word}
 use Rattle.ql_lex.specs.Words.{word_bytes, IsWord}
 use Rattle.ql_lex.specs.Tokens.{IsName}
-use Rattle.ql_parse.specs.Ink.{Ink, space, written, text_of, mark, keyword, small, name, between, comma, listed, bracketed}
+use Rattle.ql_parse.specs.Ink.{text_of, mark, keyword, small, name, comma, listed, bracketed}
 use Rattle.ql_parse.specs.Printing.{Inks}
-use Rattle.ql_parse.proofs.Growth.{text_append}
-use Rattle.ql_parse.proofs.LexedInk.{Lexed, over, blank, token}
+use Rattle.ql_parse.proofs.LexedInk.{Lexed, blank, token}
 use Rattle.ql_parse.proofs.CutLemmas.{IsQuiet, ends, is_spelled_as_word, open_cut, close_cut, comma_cut, word_cut, name_cut}
 
 -- a part is sound: where a text that does not go on with a word is read as its tokens, it is with this part before it

@@ -1,6 +1,6 @@
 -- Each form of a printed tree is sound where its parts are.
-use Rattle.std.proofs.Common.{◌≡◌, ℕ, ◌^◌, ◌<◌, Bool, true, false, List, [], ◌∷◌, ◌++◌, Option, Some, None, map, refl, ap, append_assoc}
-use Rattle.std.specs.Prelude.{flat_map, decimal, option_map}
+use Rattle.std.proofs.Common.{◌≡◌, ℕ, ◌^◌, ◌<◌, Bool, true, false, List, [], ◌∷◌, ◌++◌, Some, None, map, refl}
+use Rattle.std.specs.Prelude.{flat_map}
 use Rattle.std.specs.Char.{to_ascii_uppercase}
 use Rattle.ql_lex.specs.declared.marks.Mark.TheVariants as m
 use Rattle.ql_lex.specs.declared.words.Word.{Word}
@@ -15,13 +15,13 @@ use Rattle.ql_parse.specs.declared.syntax.Expr.TheVariants as e
 use Rattle.ql_parse.specs.declared.syntax.Function.{Function}
 use Rattle.ql_parse.specs.declared.syntax.Link.{Link, roll-Link}
 use Rattle.ql_parse.specs.declared.syntax.Select.{Select}
-use Rattle.ql_parse.specs.Ink.{Ink, space, text_of, mark, keyword, small, name, number, string, between, listed, bracketed}
-use Rattle.ql_parse.specs.Printing.{Inks, ink_of_bin, ink_of_un, ink_of_ops, ink_of_not, ink_of_expr, ink_of_link, ink_of_select, word_of_kind, function_bytes}
+use Rattle.ql_parse.specs.Ink.{space, text_of, mark, keyword, name, listed, bracketed}
+use Rattle.ql_parse.specs.Printing.{Inks, ink_of_un, ink_of_not, ink_of_expr, ink_of_link, ink_of_select, function_bytes}
 use Rattle.ql_parse.specs.Trees.{chain, signed}
 use Rattle.ql_parse.proofs.PrintingEquations.{of_chain, of_unary, of_number, of_text, of_truth, of_null, of_column, of_paren, of_call, of_convert, of_in, of_in_select, of_between, of_is_null, of_link}
-use Rattle.ql_parse.proofs.LexedInk.{Lexed, over, blank, token}
-use Rattle.ql_parse.proofs.CutLemmas.{IsQuiet, ends, is_spelled_as_word, dot_cut, number_cut, text_cut}
-use Rattle.ql_parse.proofs.SoundInk.{IsSound, IsLater, IsPart, AreSound, sound_part, later_none, sound_then, later_then, part_then, keyword_lexed, small_lexed, name_lexed, bracketed_part, bracketed_later, listed_sound, none, one}
+use Rattle.ql_parse.proofs.LexedInk.{blank, token}
+use Rattle.ql_parse.proofs.CutLemmas.{is_spelled_as_word, dot_cut, number_cut, text_cut}
+use Rattle.ql_parse.proofs.SoundInk.{IsSound, IsLater, IsPart, AreSound, sound_part, sound_then, later_then, keyword_lexed, small_lexed, name_lexed, bracketed_part, bracketed_later, listed_sound}
 use Rattle.ql_parse.proofs.SoundTokens.{bin_lexed, un_lexed, kind_lexed, kind_quiet, function_name, name_quiet, number_quiet}
 
 -- a keyword between blanks, and what stands behind it

@@ -1,8 +1,7 @@
 -- A printed SELECT is sound where its parts are.
-use Rattle.std.proofs.Common.{◌≡◌, ℕ, Bool, true, false, List, [], ◌∷◌, ◌++◌, Option, Some, None, map, refl, append_assoc}
+use Rattle.std.proofs.Common.{ℕ, Bool, true, false, List, [], ◌∷◌, ◌++◌, Option, Some, None, map, refl}
 use Rattle.std.specs.Prelude.{option_map}
 use Rattle.ql_lex.specs.declared.marks.Mark.TheVariants as m
-use Rattle.ql_lex.specs.declared.words.Word.{Word}
 use Rattle.ql_lex.specs.declared.words.Word.TheVariants as w
 use Rattle.ql_lex.specs.Tokens.{IsName}
 use Rattle.ql_parse.specs.declared.syntax.Expr.{Expr}
@@ -14,12 +13,12 @@ use Rattle.ql_parse.specs.declared.syntax.SetSource.{SetSource}
 use Rattle.ql_parse.specs.declared.syntax.SetSource.TheVariants as source
 use Rattle.ql_parse.specs.declared.syntax.Side.{Side}
 use Rattle.ql_parse.specs.declared.syntax.Side.TheVariants as side
-use Rattle.ql_parse.specs.Ink.{Ink, space, text_of, mark, keyword, name, listed, bracketed}
+use Rattle.ql_parse.specs.Ink.{space, text_of, mark, keyword, name, listed}
 use Rattle.ql_parse.specs.Printing.{Inks, behind, word_of_side, ink_of_alias, ink_of_fields, ink_of_sets, ink_of_join, ink_of_groups, ink_of_direction, ink_of_keys, ink_of_distinct, ink_of_expr, ink_of_select, ink_of_field, ink_of_source, ink_of_set, ink_of_one_join}
 use Rattle.ql_parse.proofs.PrintingEquations.{of_table, of_query, of_field, of_set, of_join, of_select}
-use Rattle.ql_parse.proofs.LexedInk.{Lexed, over, blank, token}
-use Rattle.ql_parse.proofs.CutLemmas.{ends, star_cut}
-use Rattle.ql_parse.proofs.SoundInk.{IsSound, IsLater, IsPart, AreSound, sound_part, later_none, sound_then, later_then, keyword_lexed, name_lexed, bracketed_part, listed_sound, none, one}
+use Rattle.ql_parse.proofs.LexedInk.{Lexed, blank, token}
+use Rattle.ql_parse.proofs.CutLemmas.{star_cut}
+use Rattle.ql_parse.proofs.SoundInk.{IsSound, IsLater, AreSound, sound_part, later_none, sound_then, later_then, keyword_lexed, name_lexed, bracketed_part, listed_sound}
 use Rattle.ql_parse.proofs.SoundParts.{behind_later}
 
 -- the name behind AS, if there is one, is a name
@@ -67,8 +66,8 @@ join_later which set on h k =
     let inner : Inks = ink_of_set set ++ (space ∷ keyword w.On ∷ space ∷ ink_of_expr on) in
     rw (of_join which set on) (record {
       goes = λ tail e l.
-        blank (side_lexed which (keyword w.Outer ∷ space ∷ keyword w.Join ∷ space ∷ inner ++ tail)
-        (keyword_lexed w.Outer (space ∷ keyword w.Join ∷ space ∷ inner ++ tail) refl refl refl (blank (keyword_lexed w.Join (space ∷ inner ++ tail) refl refl refl (blank (both.goes tail e l))))));
+          blank (side_lexed which (keyword w.Outer ∷ space ∷ keyword w.Join ∷ space ∷ inner ++ tail)
+          (keyword_lexed w.Outer (space ∷ keyword w.Join ∷ space ∷ inner ++ tail) refl refl refl (blank (keyword_lexed w.Join (space ∷ inner ++ tail) refl refl refl (blank (both.goes tail e l))))));
       apart = λ tail e. refl;
     })
 
@@ -120,7 +119,7 @@ begins_select : (distinct : Bool) (x : Inks) → IsSound x → IsSound ((keyword
 begins_select false x h = record { goes = λ tail e l. keyword_lexed w.Select (space ∷ x ++ tail) refl refl refl (blank (h.goes tail e l)) }
 begins_select true x h = record {
   goes = λ tail e l.
-    keyword_lexed w.Select (space ∷ keyword w.Distinct ∷ space ∷ x ++ tail) refl refl refl (blank (keyword_lexed w.Distinct (space ∷ x ++ tail) refl refl refl (blank (h.goes tail e l))));
+      keyword_lexed w.Select (space ∷ keyword w.Distinct ∷ space ∷ x ++ tail) refl refl refl (blank (keyword_lexed w.Distinct (space ∷ x ++ tail) refl refl refl (blank (h.goes tail e l))));
 }
 
 -- what a SELECT needs of its parts

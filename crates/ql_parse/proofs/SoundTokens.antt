@@ -1,10 +1,9 @@
 -- The single tokens of a printed tree, before other tokens.
-use Rattle.std.proofs.Common.{◌≡◌, ℕ, ◌^◌, ◌<◌, ◌≤◌, Bool, true, false, List, [], ◌∷◌, ◌++◌, length, map, refl, ap, arith, lit≤}
-use Rattle.std.specs.Prelude.{◌==◌, ◌&&◌, not, decimal, All, slice_index}
+use Rattle.std.proofs.Common.{◌≡◌, ℕ, ◌^◌, ◌<◌, ◌≤◌, Bool, true, List, [], ◌∷◌, ◌++◌, length, map, refl, arith, lit≤}
+use Rattle.std.specs.Prelude.{◌==◌, ◌&&◌, not, decimal, All}
 use Rattle.std.specs.Char.{to_ascii_lowercase}
 use Rattle.std.specs.List.{list_all}
 use Rattle.std.specs.Str.{bytes_eq}
-use Rattle.std.proofs.lemmas.Bool.{leb-true}
 use Rattle.std.proofs.lemmas.Fmt.{decimal_nonempty}
 use Rattle.std.proofs.lemmas.List.Elements.{All-nil, All-cons}
 use Rattle.std.proofs.lemmas.Slice.Eq.{bytes_eq-Decides}
@@ -23,7 +22,7 @@ use Rattle.ql_value.specs.declared.value.Kind.{Kind}
 use Rattle.ql_value.specs.declared.value.Kind.TheVariants as k
 use Rattle.ql_parse.specs.declared.syntax.Function.{Function}
 use Rattle.ql_parse.specs.declared.syntax.Function.TheVariants as f
-use Rattle.ql_parse.specs.Ink.{Ink, space, text_of, small}
+use Rattle.ql_parse.specs.Ink.{space, text_of, small}
 use Rattle.ql_parse.specs.Printing.{Inks, ink_of_bin, ink_of_un, word_of_kind, function_bytes}
 use Rattle.ql_parse.proofs.LexedInk.{Lexed, blank, token}
 use Rattle.ql_parse.proofs.CutLemmas.{IsQuiet, ends, differs, mark_cut, plus_cut, minus_cut, bang_cut, caret_cut}

@@ -16,6 +16,8 @@ pub mod Scripts
 pub mod Selects
 pub mod Trees
 pub mod Statements
+pub mod StatementParts
+pub mod StatementLists
 pub mod Ink
 pub mod Printing
 pub mod StatementPrinting

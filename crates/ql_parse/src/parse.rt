@@ -1,7 +1,11 @@
+mod alter;
 mod brackets;
 mod chain;
 mod clause;
+mod columns;
+mod create;
 mod cursor;
+mod exists;
 mod fault;
 mod from;
 mod functions;
@@ -14,3 +18,4 @@ mod predicate;
 mod primary;
 mod select;
 mod steps;
+mod update;

@@ -6,7 +6,8 @@ ghost use Rattle.ql_parse.specs.Trees.{function_named};
 
 use crate::syntax::Function;
 
-fn is_spelled(text: &[u8], name: &[u8]) -> bool
+/// Whether a name is spelled so.
+pub fn is_spelled(text: &[u8], name: &[u8]) -> bool
     ensures { result ≡ bytes_eq text.now name.now }
 {
     text == name
