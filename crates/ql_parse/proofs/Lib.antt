@@ -1,3 +1,5 @@
+pub mod ScriptLemmas
+pub mod DispatchLemmas
 pub mod Answering
 pub mod StatementLemmas
 pub mod ReadBack
