@@ -72,10 +72,6 @@ same_index e f g h =
 pub enclosed_item : {n : ℕ} {ts rest : List Lexeme} {a : Parse} → Reads n (bracketed item_rule) ts (group a) rest → one_item_of a ≡ item_of (group a)
 enclosed_item (enclosed o h c) = item_tree h
 
--- equal pairs
-pub same_pair : {A B : Type 0} {a b : A} {x y : B} → a ≡ b → x ≡ y → ◌≡◌ {A = A × B} (a, x) (b, y)
-same_pair e d = rw (e, d) refl
-
 and_both : (a b : Bool) → a && b ≡ true → (a ≡ true) × (b ≡ true)
 and_both true b e = (refl, e)
 and_both false b e = cc

@@ -1,5 +1,5 @@
 use Rattle.ql_parse.specs.Readings.{pair, both}
-use Rattle.ql_parse.proofs.StatementLemmas.{same_pair}
+use Rattle.ql_parse.proofs.SelectLemmas.{same_pair}
 use Rattle.ql_parse.proofs.StepLemmas.{exits}
 use Rattle.ql_parse.proofs.Sequences.{fails_first, fails_second}
 use Rattle.ql_parse.proofs.parse.alter.quietly.Goals as goal

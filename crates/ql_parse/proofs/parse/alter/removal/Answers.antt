@@ -24,7 +24,7 @@ returns-then-sees_word c n = record {
 pub returns-in_err-quiet-2 : goal.returns-in_err-quiet-2
 returns-in_err-quiet-2 c n = exits _ _ _ _ c.from_residual-in_err-quiet-2.ensures.1
     (fails_the rule.removal (fails_second (c.in_ok-expect_word.ensures n)
-        (fails_right (sym c.sees_word.ensures ∙ c.if-sees_word.false) (sym c.sees_word-2.ensures ∙ c.if-sees_word-2.true) (c.in_err-quiet-2.ensures n))))
+    (fails_right (sym c.sees_word.ensures ∙ c.if-sees_word.false) (sym c.sees_word-2.ensures ∙ c.if-sees_word-2.true) (c.in_err-quiet-2.ensures n))))
 
 pub returns-then-sees_word-2 : goal.returns-then-sees_word-2
 returns-then-sees_word-2 c n = record {

@@ -1,6 +1,7 @@
 use Rattle.std.proofs.Common.{◌∙◌}
 use Rattle.ql_parse.specs.Readings.{pair, group, both, enclosed}
-use Rattle.ql_parse.proofs.StatementLemmas.{enclosed_item, same_pair}
+use Rattle.ql_parse.proofs.SelectLemmas.{same_pair}
+use Rattle.ql_parse.proofs.StatementLemmas.{enclosed_item}
 use Rattle.ql_parse.proofs.StepLemmas.{exits}
 use Rattle.ql_parse.proofs.Sequences.{fails_first, fails_second}
 use Rattle.ql_parse.proofs.parse.create.target.Goals as goal

@@ -16,11 +16,14 @@ pub returns-in_err-expect_word-2 : goal.returns-in_err-expect_word-2
 returns-in_err-expect_word-2 c n =
     let seen = sym c.sees_word.ensures ∙ c.if-not-sees_word.false in
     exits _ _ _ _ c.from_residual-in_err-expect_word-2.ensures.1
-        (fails_part seen (fails_second (taken n seen c.skip.ensures) (fails_second (c.in_ok-expect_word.ensures n) (c.in_err-expect_word-2.ensures n))))
+    (fails_part seen (fails_second (taken n seen c.skip.ensures) (fails_second (c.in_ok-expect_word.ensures n) (c.in_err-expect_word-2.ensures n))))
 
 pub returns : goal.returns
 returns c n =
     let seen = sym c.sees_word.ensures ∙ c.if-not-sees_word.false in
     let word = taken n seen c.skip.ensures in
-    record { parse = present (pair word.parse (pair (c.in_ok-expect_word.ensures n).parse (c.in_ok-expect_word-2.ensures n).parse));
-      reads = entered seen (both word.reads (both (c.in_ok-expect_word.ensures n).reads (c.in_ok-expect_word-2.ensures n).reads)); means = refl }
+    record {
+      parse = present (pair word.parse (pair (c.in_ok-expect_word.ensures n).parse (c.in_ok-expect_word-2.ensures n).parse));
+      reads = entered seen (both word.reads (both (c.in_ok-expect_word.ensures n).reads (c.in_ok-expect_word-2.ensures n).reads));
+      means = refl;
+    }

@@ -23,16 +23,16 @@ returns-in_err-table g c = exits _ _ _ _ c.from_residual-in_err-table.ensures.1
 pub returns : goal.returns
 returns g c =
     the_answers rule.alteration (λ a. alteration_of (node rule.alteration a)) alteration_of c.change.result
-        (second_answers (λ a. alteration_of (node rule.alteration (pair (c.in_ok-expect_word.ensures c.args.self.now.room).parse a))) (λ a. alteration_of (node rule.alteration a)) c.change.result
-            (c.in_ok-expect_word.ensures c.args.self.now.room)
-            (second_answers (λ a. alteration_of (node rule.alteration (pair (c.in_ok-expect_word.ensures c.args.self.now.room).parse (pair (c.in_ok-expect_word-2.ensures c.args.self.now.room).parse a))))
-                (λ a. alteration_of (node rule.alteration (pair (c.in_ok-expect_word.ensures c.args.self.now.room).parse a))) c.change.result
-                (c.in_ok-expect_word-2.ensures c.args.self.now.room)
-                (second_answers (change_of c.in_ok-table.table)
-                    (λ a. alteration_of (node rule.alteration (pair (c.in_ok-expect_word.ensures c.args.self.now.room).parse (pair (c.in_ok-expect_word-2.ensures c.args.self.now.room).parse a)))) c.change.result
-                    (c.in_ok-table.ensures c.args.self.now.room) c.change.ensures
-                    (change_tree (c.in_ok-expect_word.ensures c.args.self.now.room).parse (c.in_ok-expect_word-2.ensures c.args.self.now.room).parse (c.in_ok-table.ensures c.args.self.now.room).parse
-                        (c.in_ok-table.ensures c.args.self.now.room).means))
-                (λ b h. refl))
-            (λ b h. refl))
-        (λ a h. refl)
+    (second_answers (λ a. alteration_of (node rule.alteration (pair (c.in_ok-expect_word.ensures c.args.self.now.room).parse a))) (λ a. alteration_of (node rule.alteration a)) c.change.result
+    (c.in_ok-expect_word.ensures c.args.self.now.room)
+    (second_answers (λ a. alteration_of (node rule.alteration (pair (c.in_ok-expect_word.ensures c.args.self.now.room).parse (pair (c.in_ok-expect_word-2.ensures c.args.self.now.room).parse a))))
+    (λ a. alteration_of (node rule.alteration (pair (c.in_ok-expect_word.ensures c.args.self.now.room).parse a))) c.change.result
+    (c.in_ok-expect_word-2.ensures c.args.self.now.room)
+    (second_answers (change_of c.in_ok-table.table)
+    (λ a. alteration_of (node rule.alteration (pair (c.in_ok-expect_word.ensures c.args.self.now.room).parse (pair (c.in_ok-expect_word-2.ensures c.args.self.now.room).parse a)))) c.change.result
+    (c.in_ok-table.ensures c.args.self.now.room) c.change.ensures
+    (change_tree (c.in_ok-expect_word.ensures c.args.self.now.room).parse (c.in_ok-expect_word-2.ensures c.args.self.now.room).parse (c.in_ok-table.ensures c.args.self.now.room).parse
+    (c.in_ok-table.ensures c.args.self.now.room).means))
+    (λ b h. refl))
+    (λ b h. refl))
+    (λ a h. refl)

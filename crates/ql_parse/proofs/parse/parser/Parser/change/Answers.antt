@@ -34,7 +34,7 @@ returns-in_err-column-2 g c =
     let other = sym c.sees_word.ensures ∙ c.if-sees_word.false in
     let seen = sym c.sees_word-2.ensures ∙ c.if-not-sees_word.false in
     exits _ _ _ _ c.from_residual-in_err-column-2.ensures.1
-        (fails_right other seen (fails_second (taken c.args.self.now.room seen c.skip-2.ensures) (fails_second (c.in_ok-expect_word.ensures _) (c.in_err-column-2.ensures _))))
+    (fails_right other seen (fails_second (taken c.args.self.now.room seen c.skip-2.ensures) (fails_second (c.in_ok-expect_word.ensures _) (c.in_err-column-2.ensures _))))
 
 pub returns : goal.returns
 returns g c =

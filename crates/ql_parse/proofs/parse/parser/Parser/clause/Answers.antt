@@ -16,5 +16,8 @@ pub returns : goal.returns
 returns g c =
     let seen = sym c.sees_word.ensures ∙ c.if-not-sees_word.false in
     let word = taken c.args.self.now.room seen c.skip.ensures in
-    record { parse = present (pair word.parse c.in_ok-part.ensures.parse); reads = entered seen (both word.reads c.in_ok-part.ensures.reads);
-      means = ap Some c.in_ok-part.ensures.means }
+    record {
+      parse = present (pair word.parse c.in_ok-part.ensures.parse);
+      reads = entered seen (both word.reads c.in_ok-part.ensures.reads);
+      means = ap Some c.in_ok-part.ensures.means;
+    }

@@ -13,8 +13,11 @@ pub returns-then-sees_word : goal.returns-then-sees_word
 returns-then-sees_word g c =
     let seen = sym c.sees_word.ensures ∙ c.if-sees_word.true in
     let word = taken c.args.self.now.room seen c.skip.ensures in
-    record { parse = present (left (pair word.parse (c.in_ok-expect_word.ensures c.args.self.now.room).parse));
-      reads = entered (rw seen refl) (first seen (both word.reads (c.in_ok-expect_word.ensures c.args.self.now.room).reads)); means = refl }
+    record {
+      parse = present (left (pair word.parse (c.in_ok-expect_word.ensures c.args.self.now.room).parse));
+      reads = entered (rw seen refl) (first seen (both word.reads (c.in_ok-expect_word.ensures c.args.self.now.room).reads));
+      means = refl;
+    }
 
 pub returns-in_err-rule : goal.returns-in_err-rule
 returns-in_err-rule g c =
@@ -26,9 +29,11 @@ pub returns-then-begins_expr : goal.returns-then-begins_expr
 returns-then-begins_expr g c =
     let other = sym c.sees_word.ensures ∙ c.if-sees_word.false in
     let begun = sym c.begins_expr.ensures ∙ c.if-begins_expr.true in
-    record { parse = present (right c.in_ok-rule.ensures.parse);
+    record {
+      parse = present (right c.in_ok-rule.ensures.parse);
       reads = entered (rw (other, begun) refl) (second other begun c.in_ok-rule.ensures.reads);
-      means = ap (λ e. (false, Some e)) c.in_ok-rule.ensures.means }
+      means = ap (λ e. (false, Some e)) c.in_ok-rule.ensures.means;
+    }
 
 pub returns : goal.returns
 returns g c =

@@ -15,5 +15,5 @@ returns-in_err-expect_word g c = exits _ _ _ _ c.from_residual.ensures.1 (fails_
 pub returns : goal.returns
 returns g c =
     the_answers rule.creation (λ a. creation_of (node rule.creation a)) creation_of c.made.result
-        (second_answers made_of (λ a. creation_of (node rule.creation a)) c.made.result (c.in_ok-expect_word.ensures c.args.self.now.room) c.made.ensures (made_tree (c.in_ok-expect_word.ensures c.args.self.now.room).parse))
-        (λ a h. refl)
+    (second_answers made_of (λ a. creation_of (node rule.creation a)) c.made.result (c.in_ok-expect_word.ensures c.args.self.now.room) c.made.ensures (made_tree (c.in_ok-expect_word.ensures c.args.self.now.room).parse))
+    (λ a h. refl)
