@@ -45,12 +45,12 @@ pub past_literals : {n : ℕ} {ts new : List Lexeme} {a : Parse} → NoLiteral t
     → Reads n (the primary) ts (node primary (right (right (right (right (right a)))))) new
 past_literals lit e h =
     by_rule (second lit.number (rw (lit.text, lit.truth, lit.falsity, lit.null) e) (second lit.text (rw (lit.truth, lit.falsity, lit.null) e)
-        (second lit.truth (rw (lit.falsity, lit.null) e) (second lit.falsity (rw lit.null e) (second lit.null e h)))))
+    (second lit.truth (rw (lit.falsity, lit.null) e) (second lit.falsity (rw lit.null e) (second lit.null e h)))))
 
 pub fails_past : {n : ℕ} {ts : List Lexeme} {d : Fault} → NoLiteral ts → enters after_literals ts ≡ true → Fails n after_literals ts d → Fails n (the primary) ts d
 fails_past lit e h =
     fails_the primary (fails_right lit.number (rw (lit.text, lit.truth, lit.falsity, lit.null) e) (fails_right lit.text (rw (lit.truth, lit.falsity, lit.null) e)
-        (fails_right lit.truth (rw (lit.falsity, lit.null) e) (fails_right lit.falsity (rw lit.null e) (fails_right lit.null e h)))))
+    (fails_right lit.truth (rw (lit.falsity, lit.null) e) (fails_right lit.falsity (rw lit.null e) (fails_right lit.null e h)))))
 
 -- no primary begins there
 pub fails_none : {n : ℕ} {ts : List Lexeme} {d : Fault} → NoLiteral ts → enters after_literals ts ≡ false → d ≡ f.Unexpected (length ts) → Fails n (the primary) ts d
@@ -244,7 +244,7 @@ fails_paren [] a k o h = cc
 fails_paren (t ∷ ts) a k o h =
     let i = kind_is t ts _ k in
     fails_past (mark_no_literal a (t ∷ ts) k) (rw (o, i) refl)
-        (fails_right (rw i refl) (rw (o, i) refl) (fails_right (rw i refl) (rw (o, i) refl) (fails_right (rw i refl) (rw o refl) (fails_left o h))))
+    (fails_right (rw i refl) (rw (o, i) refl) (fails_right (rw i refl) (rw (o, i) refl) (fails_right (rw i refl) (rw o refl) (fails_left o h))))
 
 -- another mark begins no primary
 pub fails_mark : {n : ℕ} (ts : List Lexeme) {d : Fault} (a : _) → kind_at ts ≡ Some (kind.Mark a) → sees is_open ts ≡ false → d ≡ f.Unexpected (length ts) → Fails n (the primary) ts d
@@ -283,7 +283,7 @@ fails_convert {n = n} (t ∷ ts) {mid = mid} {d = fault} a k lit s e h =
     let one : sees_two is_count is_open (t ∷ ts) ≡ false = rw i refl in
     let named : Gives n (token is_kind) kind_of (t ∷ ts) (kind_of_next (t ∷ ts)) ts = record { parse = leaf t; reads = takes s; means = refl } in
     fails_past lit (rw (one, three, name_no, open_no, s) refl)
-        (fails_right one (rw (three, name_no, open_no, s) refl) (fails_right three (rw (name_no, open_no, s) refl) (fails_right name_no (rw (open_no, s) refl) (fails_right open_no s (fails_second named h')))))
+    (fails_right one (rw (three, name_no, open_no, s) refl) (fails_right three (rw (name_no, open_no, s) refl) (fails_right name_no (rw (open_no, s) refl) (fails_right open_no s (fails_second named h')))))
 
 -- another keyword begins no primary
 pub fails_word : {n : ℕ} (ts : List Lexeme) {d : Fault} (a : Word) → kind_at ts ≡ Some (kind.Word a) → NoLiteral ts → sees is_kind ts ≡ false → d ≡ f.Unexpected (length ts) → Fails n (the primary) ts d

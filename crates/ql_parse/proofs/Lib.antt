@@ -1,3 +1,4 @@
+pub mod ScriptLemmas
 pub mod DispatchLemmas
 pub mod Answering
 pub mod StatementLemmas

@@ -35,14 +35,14 @@ pub at_number : (n : ℕ) (ts new : List Lexeme) (v : ℕ) → kind_at ts ≡ So
 at_number n [] new v k g d = cc
 at_number n (t ∷ ts) new v k g d =
     rw (g, d) (by_kind n t ts kind.Number (e.Number (number_value t.text)) (kind_is t ts _ k)
-        (record { parse = node primary (left (leaf (record { kind = kind.Number; text = t.text }))); reads = by_rule (first refl (takes refl)); means = refl }))
+    (record { parse = node primary (left (leaf (record { kind = kind.Number; text = t.text }))); reads = by_rule (first refl (takes refl)); means = refl }))
 
 -- a string
 pub at_text : (n : ℕ) (ts new : List Lexeme) (v : List ℕ) → kind_at ts ≡ Some kind.Text → v ≡ text_value (text_at ts) → new ≡ drop 1 ts → Gives n (the primary) expr_of ts (e.Text v) new
 at_text n [] new v k g d = cc
 at_text n (t ∷ ts) new v k g d =
     rw (g, d) (by_kind n t ts kind.Text (e.Text (text_value t.text)) (kind_is t ts _ k)
-        (record { parse = node primary (right (left (leaf (record { kind = kind.Text; text = t.text })))); reads = by_rule (second refl refl (first refl (takes refl))); means = refl }))
+    (record { parse = node primary (right (left (leaf (record { kind = kind.Text; text = t.text })))); reads = by_rule (second refl refl (first refl (takes refl))); means = refl }))
 
 -- the keyword of a literal is the first token
 word_kind : (a : Word) (k : TokenKind) → kind_is_word a k ≡ true → k ≡ kind.Word a
@@ -57,19 +57,28 @@ pub at_true : (n : ℕ) (ts new : List Lexeme) → sees (is_word w.True) ts ≡ 
 at_true n [] new k d = cc
 at_true n (t ∷ ts) new k d =
     rw d (by_kind n t ts (kind.Word w.True) (e.Truth true) (word_kind w.True t.kind k)
-        (record { parse = node primary (right (right (left (leaf (record { kind = kind.Word w.True; text = t.text })))));
-          reads = by_rule (second refl refl (second refl refl (first refl (takes refl)))); means = refl }))
+    (record {
+      parse = node primary (right (right (left (leaf (record { kind = kind.Word w.True; text = t.text })))));
+      reads = by_rule (second refl refl (second refl refl (first refl (takes refl))));
+      means = refl;
+    }))
 
 pub at_false : (n : ℕ) (ts new : List Lexeme) → sees (is_word w.False) ts ≡ true → new ≡ drop 1 ts → Gives n (the primary) expr_of ts (e.Truth false) new
 at_false n [] new k d = cc
 at_false n (t ∷ ts) new k d =
     rw d (by_kind n t ts (kind.Word w.False) (e.Truth false) (word_kind w.False t.kind k)
-        (record { parse = node primary (right (right (right (left (leaf (record { kind = kind.Word w.False; text = t.text }))))));
-          reads = by_rule (second refl refl (second refl refl (second refl refl (first refl (takes refl))))); means = refl }))
+    (record {
+      parse = node primary (right (right (right (left (leaf (record { kind = kind.Word w.False; text = t.text }))))));
+      reads = by_rule (second refl refl (second refl refl (second refl refl (first refl (takes refl)))));
+      means = refl;
+    }))
 
 pub at_null : (n : ℕ) (ts new : List Lexeme) → sees (is_word w.Null) ts ≡ true → new ≡ drop 1 ts → Gives n (the primary) expr_of ts e.Null new
 at_null n [] new k d = cc
 at_null n (t ∷ ts) new k d =
     rw d (by_kind n t ts (kind.Word w.Null) e.Null (word_kind w.Null t.kind k)
-        (record { parse = node primary (right (right (right (right (left (leaf (record { kind = kind.Word w.Null; text = t.text })))))));
-          reads = by_rule (second refl refl (second refl refl (second refl refl (second refl refl (first refl (takes refl)))))); means = refl }))
+    (record {
+      parse = node primary (right (right (right (right (left (leaf (record { kind = kind.Word w.Null; text = t.text })))))));
+      reads = by_rule (second refl refl (second refl refl (second refl refl (second refl refl (first refl (takes refl))))));
+      means = refl;
+    }))

@@ -67,7 +67,17 @@ filtered_made e d f = rw (e, d, f) refl
 -- a SELECT of its parts
 pub select_made : {n : ℕ} {ts rest : List Lexeme} {q : Parse} (k d s f : Parse) {distinct : Bool} {fields : List Field} (sources : Sources) (filtered : Filtered)
     → Reads n filtered_rule ts q rest → distinct ≡ is_present d → fields ≡ fields_of s → sources ≡ from_of f → filtered ≡ filtered_of q
-    → roll-Select (record { distinct = distinct; fields = fields; sets = sources.sets; join = sources.join; filter = filtered.filter; groups = filtered.groups; keys = filtered.sorted.0.0; descending = filtered.sorted.0.1;
-        limit = filtered.sorted.1.0; offset = filtered.sorted.1.1 })
-      ≡ select_of (node select (pair k (pair d (pair s (pair f q)))))
+    → roll-Select (record {
+      distinct = distinct;
+      fields = fields;
+      sets = sources.sets;
+      join = sources.join;
+      filter = filtered.filter;
+      groups = filtered.groups;
+      keys = filtered.sorted.0.0;
+      descending = filtered.sorted.0.1;
+      limit = filtered.sorted.1.0;
+      offset = filtered.sorted.1.1;
+    })
+    ≡ select_of (node select (pair k (pair d (pair s (pair f q)))))
 select_made k d s f sources filtered (both h (both i (both j (both l m)))) e1 e2 e3 e4 = rw (e1, e2, e3, e4) refl

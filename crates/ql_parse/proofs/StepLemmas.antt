@@ -1,7 +1,7 @@
 -- What one token gives, and where it fails.
 use Rattle.std.proofs.Common.{◌≡◌, ◌≢◌, ℕ, Bool, true, false, List, [], ◌∷◌, length, drop, refl, ap, sym, ◌∙◌}
 use Rattle.ql_lex.specs.declared.token.TokenKind.{TokenKind}
-use Rattle.std.specs.Prelude.{Option, Some, None, Result, Ok, Err, IsErrAnd}
+use Rattle.std.specs.Prelude.{Option, Some, None, Result, Ok, Err, IsErrAnd, IfErr}
 use Rattle.ql_parse.specs.Lexemes.{Lexeme, sees, kind_at, text_at}
 use Rattle.ql_parse.specs.Rules.{Rule, token, maybe, bracketed}
 use Rattle.ql_parse.specs.Readings.{Parse, leaf, present, absent, takes, left_out, entered, other_token, unexpected}
@@ -53,3 +53,8 @@ exits_enclosed {n = n} {x = x} {old = old} tree new (Err fault) d e h = rw e h
 -- a token that was seen is taken
 pub taken : (n : ℕ) {test : Lexeme → Bool} {old new : List Lexeme} → sees test old ≡ true → new ≡ drop 1 old → Gives n (token test) no_value old tt new
 taken n {test = test} {old = old} {new = new} e d = gives_token n test no_value old new tt e d (λ t ts f. refl)
+
+-- the same of an answer without a value
+pub fails_with : {A : Type 0} {n : ℕ} {x : Rule} {old : List Lexeme} (r : Result A Fault) (d : Fault) → IsErrAnd r (λ e. e ≡ d) → Fails n x old d → IfErr r (Fails n x old)
+fails_with (Ok value) d e h = tt
+fails_with {n = n} {x = x} {old = old} (Err fault) d e h = rw e h

@@ -3,6 +3,7 @@ pub mod Token
 pub mod First
 pub mod Enclosed
 pub mod Functions
+pub mod Later
 pub mod Lexemes
 pub mod Lists
 pub mod Members
@@ -12,6 +13,8 @@ pub mod Parses
 pub mod Predicates
 pub mod Rules
 pub mod Readings
+pub mod ScriptFaults
+pub mod ScriptLaws
 pub mod Scripts
 pub mod Selects
 pub mod Trees

@@ -1,5 +1,5 @@
 -- What a function of the parser answers: it reads by a rule, or tells where reading stops.
-use Rattle.std.specs.Prelude.{◌≡◌, ◌≢◌, ℕ, Bool, true, false, List, ◌∷◌, length, Result, Ok, Err}
+use Rattle.std.specs.Prelude.{◌≡◌, ◌≢◌, ℕ, Bool, true, false, List, ◌∷◌, ◌++◌, length, Result, Ok, Err}
 use Rattle.ql_parse.specs.Lexemes.{Lexeme}
 use Rattle.ql_parse.specs.Rules.{Rule, bracketed}
 use Rattle.ql_parse.specs.Readings.{Parse, group, Reads, Stop, Stops, unexpected, too_nested}
@@ -44,3 +44,9 @@ pub record Encloses {A : Type 0} (n : ℕ) (x : Rule) (tree : Parse → A) (old 
 abbrev pub AnswersEnclosed : {A : Type 0} → ℕ → Rule → (Parse → A) → List Lexeme → Result A Fault → List Lexeme → Type 0
 AnswersEnclosed n x tree old (Ok value) new = Encloses n x tree old value new
 AnswersEnclosed n x tree old (Err fault) new = Fails n (bracketed x) old fault
+
+-- the tokens `old` read by the rule up to `new`, and what the reading means was added to a list
+pub record Adds {A : Type 0} (n : ℕ) (x : Rule) (tree : Parse → List A) (old : List Lexeme) (before : List A) (new : List Lexeme) (after : List A) : Type 0 where
+  pub parse : Parse
+  pub reads : Reads n x old parse new
+  pub means : after ≡ before ++ tree parse

@@ -15,6 +15,7 @@ mod typed;
 
 pub use copy::copy_expr;
 pub use first::{FirstFault, FirstStatement, FirstStatements, TABLE_LIMIT, first_script};
+pub use parse::{BRACKET_LIMIT, ParseFault, script};
 pub use print::print_expr;
 pub use print_statements::print_statement;
 pub use statement::{

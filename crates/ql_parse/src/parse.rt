@@ -11,13 +11,18 @@ mod from;
 mod functions;
 mod insert;
 mod kinds;
+mod knot;
 mod level;
 mod list;
 mod members;
 mod parser;
 mod predicate;
 mod primary;
+mod scripts;
 mod select;
 mod statement;
 mod steps;
 mod update;
+
+pub use fault::ParseFault;
+pub use scripts::{BRACKET_LIMIT, script};

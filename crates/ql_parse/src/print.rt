@@ -6,8 +6,8 @@ ghost use Rattle.ql_parse.specs.Ink.{bracketed, listed, text_of, Grows};
 ghost use Rattle.ql_parse.specs.Printing.{Inks, behind, ink_of_direction, ink_of_distinct, ink_of_expr, ink_of_field, ink_of_fields, ink_of_groups, ink_of_join, ink_of_keys, ink_of_link, ink_of_one_join, ink_of_select, ink_of_set, ink_of_sets, ink_of_source};
 
 use crate::spelled::{
-    between_bytes, bin_bytes, comma, direction_bytes, function_name, in_bytes, join_bytes,
-    kind_bytes, null_bytes, print_alias, print_column, print_ops, put, select_bytes, truth_bytes,
+    add_alias, add_ops, add_ref, between_bytes, bin_bytes, comma, direction_bytes, function_name,
+    in_bytes, join_bytes, kind_bytes, null_bytes, put, select_bytes, truth_bytes,
 };
 use crate::syntax::{
     Expr, Exprs, Field, Fields, FromSet, FromSets, Join, Link, Links, Select, SetSource,
@@ -28,7 +28,7 @@ pub(crate) fn add_expr(expr: &Expr, out: &mut Bytes) -> Result<(), NoMemory>
             Ok(())
         }
         Expr::Unary { ops, part } => {
-            print_ops(ops.as_slice(), out)?;
+            add_ops(ops.as_slice(), out)?;
             add_expr(part.get(), out)?;
             Ok(())
         }
@@ -36,7 +36,7 @@ pub(crate) fn add_expr(expr: &Expr, out: &mut Bytes) -> Result<(), NoMemory>
         Expr::Text(text) => print_text(text.as_slice(), out),
         Expr::Truth(truth) => put(truth_bytes(*truth), out),
         Expr::Null => put(b"NULL", out),
-        Expr::Column { table, column } => print_column(table, column, out),
+        Expr::Column { table, column } => add_ref(table, column, out),
         Expr::Paren(part) => add_enclosed(part, out),
         Expr::Call {
             function,
@@ -200,7 +200,7 @@ fn add_field(field: &Field, out: &mut Bytes) -> Result<(), NoMemory>
     ensures grows { Grows out.old out.new }
 {
     add_expr(&field.expr, out)?;
-    print_alias(&field.alias, out)?;
+    add_alias(&field.alias, out)?;
     Ok(())
 }
 
@@ -228,7 +228,7 @@ fn add_set(set: &FromSet, out: &mut Bytes) -> Result<(), NoMemory>
     ensures grows { Grows out.old out.new }
 {
     add_source(&set.source, out)?;
-    print_alias(&set.alias, out)?;
+    add_alias(&set.alias, out)?;
     Ok(())
 }
 

@@ -166,7 +166,7 @@ pub(crate) fn comma(index: usize) -> &'static [u8]
 }
 
 /// Adds the name that AS gives.
-pub(crate) fn print_alias(alias: &Option<Name>, out: &mut Bytes) -> Result<(), NoMemory>
+pub(crate) fn add_alias(alias: &Option<Name>, out: &mut Bytes) -> Result<(), NoMemory>
     ensures ok { OnOk result (out.new ≡ out.old ++ text_of (ink_of_alias alias.now)) }
     ensures grows { Grows out.old out.new }
 {
@@ -181,11 +181,7 @@ pub(crate) fn print_alias(alias: &Option<Name>, out: &mut Bytes) -> Result<(), N
 }
 
 /// Adds a column, with its table where that is written.
-pub(crate) fn print_column(
-    table: &Option<Name>,
-    column: &Name,
-    out: &mut Bytes,
-) -> Result<(), NoMemory>
+pub(crate) fn add_ref(table: &Option<Name>, column: &Name, out: &mut Bytes) -> Result<(), NoMemory>
     ensures ok { OnOk result (out.new ≡ out.old ++ text_of (ink_of_column table.now column.now)) }
     ensures grows { Grows out.old out.new }
 {
@@ -201,7 +197,7 @@ pub(crate) fn print_column(
 }
 
 /// Adds operators before a part.
-pub(crate) fn print_ops(ops: &[UnOp], out: &mut Bytes) -> Result<(), NoMemory>
+pub(crate) fn add_ops(ops: &[UnOp], out: &mut Bytes) -> Result<(), NoMemory>
     ensures ok { OnOk result (out.new ≡ out.old ++ text_of (ink_of_ops ops.now)) }
     ensures grows { Grows out.old out.new }
 {

@@ -8,4 +8,6 @@ mod machine;
 #[cfg(test)]
 mod made;
 #[cfg(test)]
+mod print;
+#[cfg(test)]
 mod script;

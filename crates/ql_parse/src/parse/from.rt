@@ -10,7 +10,9 @@ use super::fault::Fault;
 use super::kinds::{begins_expr, begins_join};
 use super::list::{FieldList, SetList, list};
 use super::parser::Parser;
-use super::steps::{eat_word, expect_name, expect_word, sees_mark, sees_name, sees_word, unexpected};
+use super::steps::{
+    eat_word, expect_name, expect_word, sees_mark, sees_name, sees_word, unexpected,
+};
 use crate::syntax::{Expr, Field, Fields, FromSet, FromSets, Join, Select, SetSource, Side};
 use ql_edge::{Boxed, Name};
 use ql_lex::{Mark, Word};

@@ -3,7 +3,7 @@ ghost use Rattle.ql_lex.specs.declared.token.TokenKind.TheVariants as kind;
 ghost use Rattle.ql_parse.specs.Lexemes as spec;
 ghost use Rattle.ql_parse.specs.Levels.{token_of, kind_of_next, next_un_op};
 ghost use Rattle.ql_parse.specs.Predicates.{membership_rule};
-ghost use Rattle.ql_parse.specs.Rules.{begins_expr, enters, join, the, set};
+ghost use Rattle.ql_parse.specs.Rules.{begins_expr, enters, join, the, set, statement};
 ghost use Rattle.ql_parse.specs.Trees.{kind_named, un_op};
 
 use super::cursor::Cursor;
@@ -130,6 +130,28 @@ pub fn begins_set(cursor: &Cursor<'_>) -> bool
 {
     match cursor.kind() {
         Some(TokenKind::Name | TokenKind::Mark(Mark::Open)) => true,
+        _ => false,
+    }
+}
+
+/// Whether a statement can begin at the next token.
+pub fn begins_statement(cursor: &Cursor<'_>) -> bool
+    ensures { result ≡ enters (the statement) cursor.now }
+{
+    match cursor.kind() {
+        Some(TokenKind::Word(
+            Word::Begin
+            | Word::Commit
+            | Word::Rollback
+            | Word::Select
+            | Word::Create
+            | Word::Drop
+            | Word::Alter
+            | Word::Truncate
+            | Word::Insert
+            | Word::Update
+            | Word::Delete,
+        )) => true,
         _ => false,
     }
 }

@@ -60,7 +60,12 @@ impl<
         requires within { room < self.now.room }
         ensures { Answers room (rule.list (rule.the rule.expr)) exprs_of cursor.old result cursor.new }
     {
-        list::<ExprList, _>(self.alloc, room, cursor, |room, cursor| self.inner_expr(room, cursor))
+        list::<ExprList, _>(
+            self.alloc,
+            room,
+            cursor,
+            |room, cursor| self.inner_expr(room, cursor),
+        )
     }
 
     /// The parts of a call inside its brackets, or none.

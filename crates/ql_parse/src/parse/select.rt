@@ -50,9 +50,7 @@ fn groups(alloc: Global, room: usize, cursor: &mut Cursor<'_>) -> Result<Exprs, 
     }
     expect_word(cursor, Word::Group)?;
     expect_word(cursor, Word::By)?;
-    Ok(list::<RefList, _>(alloc, room, cursor, |_, cursor| {
-        column(alloc, cursor)
-    })?)
+    Ok(list::<RefList, _>(alloc, room, cursor, |_, cursor| { column(alloc, cursor) })?)
 }
 
 impl<

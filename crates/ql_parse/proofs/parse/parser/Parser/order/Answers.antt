@@ -28,5 +28,5 @@ returns g c = record {
   means = same_pair
       (c.in_ok-keys.ensures.means ∙ keys_tree (c.in_ok-expect_word.ensures c.args.self.now.room).parse (c.in_ok-expect_word-2.ensures c.args.self.now.room).parse (c.direction-descending.ensures c.args.self.now.room).parse c.in_ok-keys.ensures.reads)
       ((c.direction-descending.ensures c.args.self.now.room).means
-          ∙ direction_tree (c.in_ok-expect_word.ensures c.args.self.now.room).parse (c.in_ok-expect_word-2.ensures c.args.self.now.room).parse c.in_ok-keys.ensures.parse (c.direction-descending.ensures c.args.self.now.room).reads);
+      ∙ direction_tree (c.in_ok-expect_word.ensures c.args.self.now.room).parse (c.in_ok-expect_word-2.ensures c.args.self.now.room).parse c.in_ok-keys.ensures.parse (c.direction-descending.ensures c.args.self.now.room).reads);
 }

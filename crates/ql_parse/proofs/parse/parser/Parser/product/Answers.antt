@@ -14,6 +14,8 @@ returns-in_err-rest g c = exits _ _ _ _ c.from_residual-in_err-rest.ensures.1 (f
 
 pub returns : goal.returns
 returns g c =
-    record { parse = node rule.product (pair c.in_ok-first.ensures.parse c.in_ok-rest.ensures.parse);
+    record {
+      parse = node rule.product (pair c.in_ok-first.ensures.parse c.in_ok-rest.ensures.parse);
       reads = by_rule (both c.in_ok-first.ensures.reads c.in_ok-rest.ensures.reads);
-      means = c.in_ok-chained.ensures ∙ same_chain c.in_ok-first.ensures.means c.in_ok-rest.ensures.means }
+      means = c.in_ok-chained.ensures ∙ same_chain c.in_ok-first.ensures.means c.in_ok-rest.ensures.means;
+    }

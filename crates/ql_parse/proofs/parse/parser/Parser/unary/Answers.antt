@@ -15,5 +15,8 @@ returns-in_err-part g c = exits _ _ _ _ c.from_residual-in_err-part.ensures.1 (f
 pub returns : goal.returns
 returns g c =
     let ops = c.in_ok-ops.ensures c.args.self.now.room in
-    record { parse = node rule.unary (pair ops.parse c.in_ok-part.ensures.parse); reads = by_rule (both ops.reads c.in_ok-part.ensures.reads);
-      means = c.in_ok-prefixed.ensures ∙ same_signed ops.means c.in_ok-part.ensures.means }
+    record {
+      parse = node rule.unary (pair ops.parse c.in_ok-part.ensures.parse);
+      reads = by_rule (both ops.reads c.in_ok-part.ensures.reads);
+      means = c.in_ok-prefixed.ensures ∙ same_signed ops.means c.in_ok-part.ensures.means;
+    }

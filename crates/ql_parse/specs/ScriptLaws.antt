@@ -1,0 +1,15 @@
+-- What the definition of scripts promises of every list of tokens.
+use Rattle.std.specs.Prelude.{◌≡◌, ℕ, List}
+use Rattle.ql_parse.specs.declared.statement.Statement.{Statement}
+use Rattle.ql_parse.specs.Lexemes.{Lexeme}
+use Rattle.ql_parse.specs.Scripts.{IsUnexpected, IsTooNested}
+use Rattle.ql_parse.specs.Statements.{IsRead}
+
+-- tokens read as one list of statements, or stop at one token for one reason, and never both
+pub record ScriptLaws : Type 0 where
+  pub one_script : (ts : List Lexeme) (ss rs : List Statement) → IsRead ts ss → IsRead ts rs → ss ≡ rs
+  pub one_unexpected : (ts : List Lexeme) (i j : ℕ) → IsUnexpected ts i → IsUnexpected ts j → i ≡ j
+  pub one_nested : (ts : List Lexeme) (i j : ℕ) → IsTooNested ts i → IsTooNested ts j → i ≡ j
+  pub one_reason : (ts : List Lexeme) (i j : ℕ) → IsUnexpected ts i → IsTooNested ts j → ⊥
+  pub read_or_unexpected : (ts : List Lexeme) (ss : List Statement) (i : ℕ) → IsRead ts ss → IsUnexpected ts i → ⊥
+  pub read_or_nested : (ts : List Lexeme) (ss : List Statement) (i : ℕ) → IsRead ts ss → IsTooNested ts i → ⊥
