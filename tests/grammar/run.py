@@ -19,7 +19,7 @@ SECONDS = 300
 
 def table():
     """The scripts of table.txt with their outcomes."""
-    text = (pathlib.Path(__file__).parent / "table.txt").read_text()
+    text = (pathlib.Path(__file__).parent / "table.txt").read_text("utf-8")
     return [tuple(line.split("\t")) for line in text.split("\n") if "\t" in line]
 
 

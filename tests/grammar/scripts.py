@@ -23,7 +23,7 @@ GAPS = [" ", " ", " ", " ", "  ", "\t", " /* c */ ", "\r"]
 
 def grammar():
     """The grammar of docs/LANGUAGE.md: the right side of each production, a tree."""
-    text = LANGUAGE.read_text()
+    text = LANGUAGE.read_text("utf-8")
     block = text[text.index("Script     =") :].split("```")[0]
     parts = re.split(r"^(\w+) += ", block, flags=re.M)[1:]
     return {name: Sides(side).alternatives() for name, side in zip(parts[::2], parts[1::2])}
