@@ -139,19 +139,21 @@ pub fn begins_statement(cursor: &Cursor<'_>) -> bool
     ensures { result ≡ enters (the statement) cursor.now }
 {
     match cursor.kind() {
-        Some(TokenKind::Word(
-            Word::Begin
-            | Word::Commit
-            | Word::Rollback
-            | Word::Select
-            | Word::Create
-            | Word::Drop
-            | Word::Alter
-            | Word::Truncate
-            | Word::Insert
-            | Word::Update
-            | Word::Delete,
-        )) => true,
+        Some(
+            TokenKind::Word(
+                Word::Begin
+                | Word::Commit
+                | Word::Rollback
+                | Word::Select
+                | Word::Create
+                | Word::Drop
+                | Word::Alter
+                | Word::Truncate
+                | Word::Insert
+                | Word::Update
+                | Word::Delete,
+            ),
+        ) => true,
         _ => false,
     }
 }

@@ -39,8 +39,8 @@ fn add(found: &mut Statements, statement: Option<Statement>) -> Result<(), NoMem
 }
 
 impl<
-    E: Fn(Global, usize, &mut Cursor<'_>) -> Result<Expr, Fault>,
-    S: Fn(Global, usize, &mut Cursor<'_>) -> Result<Select, Fault>,
+    E: Fn(Global, usize, &mut Cursor<'_>) -> Result<Expr, Fault> + Copy,
+    S: Fn(Global, usize, &mut Cursor<'_>) -> Result<Select, Fault> + Copy,
 > Parser<E, S> {
     /// A statement that may be empty.
     fn maybe_statement(&self, cursor: &mut Cursor<'_>) -> Result<Option<Statement>, Fault>
