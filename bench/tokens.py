@@ -5,9 +5,9 @@ Run `rt run < stdin` in crates/bench_lex first, which builds out/bench_lex. A fi
 Each input is also run at half its size: a time that is far from its double is over the limit too.
 """
 import os
-import subprocess
 import sys
-import tempfile
+
+from timed import run
 
 TOP = os.path.dirname(os.path.dirname(os.path.abspath(__file__)))
 PROGRAM = os.path.join(TOP, "crates", "bench_lex", "out", "bench_lex")
@@ -43,27 +43,13 @@ CASES = [
 ]
 
 
-def run(data):
-    """What the program prints, the seconds in the lexer, and the peak memory in MB."""
-    with tempfile.TemporaryFile() as script:
-        script.write(data)
-        script.seek(0)
-        child = subprocess.Popen([PROGRAM], stdin=script, stdout=subprocess.PIPE, stderr=subprocess.PIPE)
-        out, err = child.stdout.read(), child.stderr.read()
-        _, status, usage = os.wait4(child.pid, 0)
-        child.returncode = status
-    if status != 0:
-        sys.exit(f"the program ended with status {status}: {err.decode()}")
-    return out.decode().strip(), int(err.split()[0]) / 1e6, usage.ru_maxrss / 1024
-
-
 def main():
     failed = False
     print(f"{'input, 16 MiB':22} {'s':>7} {'half':>7} {'MB':>6}  answer")
     for name, make, seconds, memory in CASES:
-        half = min(run(make(SIZE // 2))[1] for _ in range(RUNS))
-        results = [run(make(SIZE)) for _ in range(RUNS)]
-        answer, time, peak = results[0][0], min(r[1] for r in results), max(r[2] for r in results)
+        half = min(run(PROGRAM, make(SIZE // 2))[1][0] for _ in range(RUNS))
+        results = [run(PROGRAM, make(SIZE)) for _ in range(RUNS)]
+        answer, time, peak = results[0][0], min(r[1][0] for r in results), max(r[2] for r in results)
         over = (seconds and time > seconds) or (memory and peak > memory) or time > 4 * half + 0.2
         failed |= bool(over)
         print(f"{name:22} {time:7.3f} {half:7.3f} {peak:6.0f}  {answer}{'   OVER THE LIMIT' if over else ''}")

@@ -1,72 +1,55 @@
-//! Builds long expressions, copies them and lets them go; the time that each copy took goes to standard error.
+//! Reads a script on standard input, lexes and parses it, copies the fields of its first statement if that is a SELECT,
+//! and lets all go. It says how many statements and copies there are, or the fault. The microseconds that the lexer, the
+//! parser, the copies and letting the statements go took are written to standard error.
 #![tactic(auto)]
 
-use ql_edge::{Boxed, NoMemory};
-use ql_parse::{Expr, Exprs, Link, Links, copy_expr};
-use ql_value::BinOp;
+use ql_edge::NoMemory;
+use ql_lex::tokens;
+use ql_parse::{Exprs, ParseFault, Statement, Statements, copy_expr, script};
 use std::alloc::Global;
 use std::io;
+use std::io::Read;
 use std::time::Instant;
 
-const PARTS: u64 = 1_000_000;
-
-/// A sum with so many links.
-fn chain(alloc: Global, links: u64) -> Result<Expr, NoMemory> {
-    let mut rest = Links::new(alloc);
-    for number in 0..links {
-        rest.push(Link {
-            op: BinOp::Add,
-            part: Expr::Number(number),
-        })?;
+/// Copies of the fields of the first statement.
+fn copies(alloc: Global, statements: &Statements) -> Result<Exprs, NoMemory> {
+    let mut copies = Exprs::new(alloc);
+    if let Some(Statement::Query(query)) = statements.as_slice().first() {
+        for field in query.fields.as_slice() {
+            copies.push(copy_expr(alloc, &field.expr)?)?;
+        }
     }
-    let first = Boxed::new(alloc, Expr::Null)?;
-    Ok(Expr::Chain { first, rest })
+    Ok(copies)
 }
 
-/// An IN list with so many parts.
-fn among(alloc: Global, parts: u64) -> Result<Expr, NoMemory> {
-    let mut list = Exprs::new(alloc);
-    for number in 0..parts {
-        list.push(Expr::Number(number))?;
-    }
-    let part = Boxed::new(alloc, Expr::Null)?;
-    Ok(Expr::IsIn {
-        part,
-        not: false,
-        list,
-    })
-}
-
-/// How many parts stand behind the first one.
-fn parts(expr: &Expr) -> usize {
-    match expr {
-        Expr::Chain { rest, .. } => rest.len(),
-        Expr::IsIn { list, .. } => list.len(),
-        _ => 0,
-    }
-}
-
-/// Copies an expression and answers how many parts the copy has.
-fn copied(alloc: Global, expr: &Expr) -> Result<usize, NoMemory> {
-    let copy = copy_expr(alloc, expr)?;
-    Ok(parts(&copy))
-}
-
-/// Builds an expression of each sort, copies both, and answers how many parts the copies have.
-fn run(alloc: Global) -> Result<(usize, usize), NoMemory> {
-    let sum = chain(alloc, PARTS)?;
-    let test = among(alloc, PARTS)?;
-    Ok((copied(alloc, &sum)?, copied(alloc, &test)?))
+/// Copies the fields of the first statement, and answers how many there are.
+fn copied(alloc: Global, statements: &Statements) -> Result<usize, NoMemory> {
+    let copies = copies(alloc, statements)?;
+    Ok(copies.len())
 }
 
 fn main(rt: HostRuntime) -> io::Result<()> {
+    let alloc = rt.alloc();
+    let mut source = Vec::new(alloc);
+    rt.stdin().read_to_end(&mut source)?;
     let start = Instant::now(&rt)?;
-    let found = run(rt.alloc());
-    let time = start.elapsed(&rt)?;
-    match found {
-        Ok((links, parts)) => println!(rt; "{links} links, {parts} parts")?,
-        Err(NoMemory) => println!(rt; "no memory")?,
-    }
-    eprintln!(rt; "{} us", time.as_micros())?;
-    Ok(())
+    let Ok(tokens) = tokens(alloc, &source) else {
+        return println!(rt; "no tokens");
+    };
+    let lexed = start.elapsed(&rt)?.as_micros();
+    let statements = match script(alloc, &source, &tokens) {
+        Ok(statements) => statements,
+        Err(ParseFault::Unexpected(at)) => return println!(rt; "unexpected at {at}"),
+        Err(ParseFault::TooNested(at)) => return println!(rt; "too nested at {at}"),
+        Err(ParseFault::NoMemory) => return println!(rt; "no memory"),
+    };
+    let parsed = start.elapsed(&rt)?.as_micros();
+    let Ok(copies) = copied(alloc, &statements) else {
+        return println!(rt; "no memory");
+    };
+    let copied = start.elapsed(&rt)?.as_micros();
+    println!(rt; "{} statements, {copies} copies", statements.len())?;
+    drop(statements);
+    let ended = start.elapsed(&rt)?.as_micros();
+    eprintln!(rt; "{lexed} {parsed} {copied} {ended} us")
 }

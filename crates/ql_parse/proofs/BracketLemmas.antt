@@ -1,8 +1,8 @@
 -- Brackets round a part.
-use Rattle.std.proofs.Common.{◌≡◌, ◌≢◌, ℕ, suc, Bool, true, false, List, [], ◌∷◌, length, drop, refl, sym}
+use Rattle.std.proofs.Common.{◌≡◌, ℕ, suc, true, false, List, [], ◌∷◌, length, drop, sym}
 use Rattle.ql_parse.specs.Lexemes.{Lexeme, sees, is_open, is_close}
 use Rattle.ql_parse.specs.Rules.{Rule, token, bracketed}
-use Rattle.ql_parse.specs.Readings.{Parse, leaf, group, Reads, Stop, Stops, takes, enclosed, other_token, unexpected, too_nested, not_open, no_room, within, not_closed}
+use Rattle.ql_parse.specs.Readings.{Parse, group, Reads, Stop, Stops, takes, enclosed, other_token, unexpected, too_nested, not_open, no_room, within, not_closed}
 use Rattle.ql_parse.specs.Parses.{Gives, Fails, Encloses, fault_of}
 use Rattle.ql_parse.specs.declared.parse.fault.Fault.{Fault}
 use Rattle.ql_parse.specs.declared.parse.fault.Fault.TheVariants as f

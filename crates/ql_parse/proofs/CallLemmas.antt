@@ -1,6 +1,6 @@
 -- The parts of calls, and what a name begins.
-use Rattle.std.proofs.Common.{◌≡◌, ◌≢◌, ℕ, Bool, true, false, ◌&&◌, ◌||◌, List, [], ◌∷◌, length, drop, refl, ap, sym, ◌∙◌}
-use Rattle.std.specs.Prelude.{Option, Some, None}
+use Rattle.std.proofs.Common.{◌≡◌, ℕ, Bool, true, false, ◌&&◌, ◌||◌, List, [], ◌∷◌, length, drop, refl, ap, sym, ◌∙◌}
+use Rattle.std.specs.Prelude.{Some, None}
 use Rattle.ql_lex.specs.declared.marks.Mark.TheVariants as m
 use Rattle.ql_lex.specs.declared.words.Word.{Word}
 use Rattle.ql_lex.specs.declared.words.Word.TheVariants as w
@@ -15,8 +15,8 @@ use Rattle.ql_parse.specs.declared.syntax.Function.TheVariants as function
 use Rattle.ql_parse.specs.Enclosed.{count_parts_of, count_call_of, call_of, count_parts, parts}
 use Rattle.ql_parse.specs.Functions.{named, is_count_function}
 use Rattle.ql_parse.specs.Lexemes.{Lexeme, sees, sees_two, is_mark, is_word, is_name, is_open, is_kind, is_count, is_function, is_number, is_text, kind_at, text_at}
-use Rattle.ql_parse.specs.Rules.{Rule, the, primary, ref, expr, token, word, bracketed, before, maybe, list, mark, ◌then◌, ◌or◌, enters, begins_expr}
-use Rattle.ql_parse.specs.Readings.{Parse, Reads, Stops, leaf, node, left, right, pair, group, present, absent, takes, takes_before, both, first, second, entered, left_out, by_rule, in_left, in_right, in_part, neither, by_its_rule, unexpected}
+use Rattle.ql_parse.specs.Rules.{Rule, the, primary, ref, expr, token, bracketed, before, maybe, list, mark, ◌then◌, ◌or◌, enters}
+use Rattle.ql_parse.specs.Readings.{Parse, Reads, Stops, leaf, node, left, right, pair, group, present, absent, takes, takes_before, both, first, second, entered, left_out, by_rule, in_right, in_part}
 use Rattle.ql_parse.specs.Parses.{Gives, Fails, Encloses}
 use Rattle.ql_parse.specs.Trees.{expr_of, exprs_of, name_of, after_null, function_named}
 use Rattle.ql_parse.specs.Levels.{kind_of_next}

@@ -1,5 +1,5 @@
 -- What is known of the token at a cursor.
-use Rattle.std.proofs.Common.{◌≡◌, ◌≢◌, true, List, ℕ, ◌∷◌, All, IsTrue}
+use Rattle.std.proofs.Common.{◌≡◌, true, List, ℕ, ◌∷◌, All, IsTrue}
 use Rattle.std.proofs.lemmas.List.Elements.{All-head}
 use Rattle.ql_lex.specs.Tokens.{IsIn, IsName, IsSpelled, spelling_of}
 use Rattle.ql_lex.specs.Numbers.{is_number}

@@ -1,8 +1,8 @@
 -- The alternatives of a statement, by its first token.
-use Rattle.std.proofs.Common.{◌≡◌, ℕ, Bool, true, false, ◌||◌, List, [], ◌∷◌, length, drop, refl, ap, sym, subst, ◌∙◌}
+use Rattle.std.proofs.Common.{◌≡◌, ℕ, Bool, true, false, ◌||◌, List, [], ◌∷◌, length, drop, refl, sym, subst}
 use Rattle.std.proofs.Common.{rules}
 use denote.Enum.Bare.{sameb, same_true}
-use Rattle.std.specs.Prelude.{Option, Some, None, Result, Ok, Err}
+use Rattle.std.specs.Prelude.{Some, None, Result, Ok, Err}
 use Rattle.ql_lex.specs.contracts.words.Word as word
 use Rattle.ql_lex.specs.declared.words.Word.{Word}
 use Rattle.ql_lex.specs.declared.words.Word.TheVariants as w
@@ -13,7 +13,7 @@ use Rattle.ql_parse.specs.declared.parse.fault.Fault.TheVariants as f
 use Rattle.ql_parse.specs.declared.statement.Statement.{Statement}
 use Rattle.ql_parse.specs.declared.statement.Statement.TheVariants as s
 use Rattle.ql_parse.specs.Lexemes.{Lexeme, is_word, sees, kind_at, text_at}
-use Rattle.ql_parse.specs.Rules.{Rule, the, statement, select, creation, removal, alteration, insertion, update, deletion, begins_the}
+use Rattle.ql_parse.specs.Rules.{the, statement, select, creation, removal, alteration, insertion, update, deletion, begins_the}
 use Rattle.ql_parse.specs.Readings.{Parse, leaf, node, left, right, takes, first, second, by_rule}
 use Rattle.ql_parse.specs.Parses.{Gives, Fails, Answers}
 use Rattle.ql_parse.specs.Trees.{select_of}

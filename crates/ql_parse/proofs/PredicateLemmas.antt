@@ -1,5 +1,5 @@
 -- What predicates mean.
-use Rattle.std.proofs.Common.{◌≡◌, ℕ, Bool, true, false, List, ◌∷◌, refl}
+use Rattle.std.proofs.Common.{◌≡◌, ℕ, Bool, List, refl}
 use Rattle.ql_parse.specs.declared.syntax.Expr.{Expr}
 use Rattle.ql_parse.specs.declared.syntax.Expr.TheVariants as e
 use Rattle.ql_parse.specs.Lexemes.{Lexeme}

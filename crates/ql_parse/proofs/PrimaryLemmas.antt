@@ -1,25 +1,21 @@
 -- The alternatives of a primary, by its first tokens.
-use Rattle.std.proofs.Common.{◌≡◌, ◌≢◌, ℕ, Bool, true, false, List, [], ◌∷◌, length, drop, refl, ap, sym, subst, ◌∙◌}
+use Rattle.std.proofs.Common.{◌≡◌, ℕ, true, false, List, [], ◌∷◌, drop, refl, ap, sym, subst}
 use Rattle.std.proofs.Common.{rules}
-use Rattle.std.specs.Prelude.{Option, Some, None}
+use Rattle.std.specs.Prelude.{Some}
 use denote.Enum.Bare.{same_true}
 use Rattle.ql_lex.specs.Meaning.{text_value}
 use Rattle.ql_lex.specs.Numbers.{number_value}
-use Rattle.ql_lex.specs.declared.marks.Mark.{Mark}
-use Rattle.ql_lex.specs.declared.marks.Mark.TheVariants as m
 use Rattle.ql_lex.specs.declared.words.Word.{Word}
 use Rattle.ql_lex.specs.contracts.words.Word.{the_type}
 use Rattle.ql_lex.specs.declared.words.Word.TheVariants as w
 use Rattle.ql_lex.specs.declared.token.TokenKind.{TokenKind}
 use Rattle.ql_lex.specs.declared.token.TokenKind.TheVariants as kind
-use Rattle.ql_parse.specs.declared.parse.fault.Fault.{Fault}
-use Rattle.ql_parse.specs.declared.parse.fault.Fault.TheVariants as f
 use Rattle.ql_parse.specs.declared.syntax.Expr.{Expr}
 use Rattle.ql_parse.specs.declared.syntax.Expr.TheVariants as e
-use Rattle.ql_parse.specs.Lexemes.{Lexeme, kind_is_word, sees, sees_two, is_word, is_open, is_kind, is_count, is_function, is_number, is_text, kind_at, text_at}
-use Rattle.ql_parse.specs.Rules.{Rule, the, primary, ref, expr, token, bracketed, before, maybe, list, mark, ◌then◌, ◌or◌}
-use Rattle.ql_parse.specs.Readings.{Parse, Reads, Stops, leaf, node, left, right, pair, group, takes, first, second, by_rule, in_left, in_right, neither, by_its_rule, unexpected}
-use Rattle.ql_parse.specs.Parses.{Gives, Fails, fault_of}
+use Rattle.ql_parse.specs.Lexemes.{Lexeme, kind_is_word, sees, is_word, kind_at, text_at}
+use Rattle.ql_parse.specs.Rules.{the, primary}
+use Rattle.ql_parse.specs.Readings.{leaf, node, left, right, takes, first, second, by_rule}
+use Rattle.ql_parse.specs.Parses.{Gives}
 use Rattle.ql_parse.specs.Trees.{expr_of}
 
 -- the kind of the first token

@@ -1,6 +1,6 @@
 -- The statements of a script, and that the answer is the only one.
-use Rattle.std.proofs.Common.{◌≡◌, ◌≢◌, ◌⊎◌, inl, inr, ℕ, suc, ◌<◌, ◌+◌, ◌-◌, ◌≤◌, Bool, true, false, List, [], ◌∷◌, ◌++◌, length, drop, refl, ap, sym, ◌∙◌, arith, append_assoc, append-nil}
-use Rattle.std.specs.Prelude.{Option, Some, None, Result, Ok, Err, IfOk}
+use Rattle.std.proofs.Common.{◌≡◌, ◌⊎◌, inl, inr, ℕ, suc, ◌<◌, ◌+◌, ◌-◌, ◌≤◌, true, false, List, [], ◌∷◌, ◌++◌, length, drop, refl, ap, sym, ◌∙◌, arith, append_assoc, append-nil}
+use Rattle.std.specs.Prelude.{Option, Result, Ok, Err}
 use Rattle.ql_lex.specs.declared.marks.Mark.TheVariants as m
 use Rattle.ql_parse.specs.declared.parse.fault.Fault.{Fault}
 use Rattle.ql_parse.specs.declared.parse.fault.Fault.TheVariants as f
@@ -9,11 +9,11 @@ use Rattle.ql_parse.specs.declared.parse.fault.ParseFault.TheVariants as p
 use Rattle.ql_parse.specs.declared.statement.Statement.{Statement}
 use Rattle.ql_parse.specs.Later.{later_rule, listed, maybe_statement_of}
 use Rattle.ql_lex.specs.declared.token.Token.{Token}
-use Rattle.ql_parse.specs.Lexemes.{Lexeme, lexemes, sees, is_mark, is_open}
-use Rattle.ql_parse.specs.Rules.{Rule, the, statement, token, maybe, many, mark, script, finish, ◌then◌, enters}
+use Rattle.ql_parse.specs.Lexemes.{Lexeme, lexemes, sees, is_mark}
+use Rattle.ql_parse.specs.Rules.{Rule, the, statement, maybe, script, finish}
 use Rattle.ql_parse.specs.Readings as r
 use Rattle.ql_parse.specs.Readings.{Parse, leaf, pair, cell, stop, absent, present, Reads, Stop, Stops, unexpected, too_nested}
-use Rattle.ql_parse.specs.Parses.{Gives, Fails, Adds, Answers, fault_of}
+use Rattle.ql_parse.specs.Parses.{Gives, Fails, Adds, fault_of}
 use Rattle.ql_parse.specs.ScriptFaults.{placed}
 use Rattle.ql_parse.specs.ScriptLaws.{ScriptLaws}
 use Rattle.ql_parse.specs.Scripts.{limit, IsUnexpected, IsTooNested}

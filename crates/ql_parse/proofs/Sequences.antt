@@ -1,5 +1,5 @@
 -- Where parts in turn fail.
-use Rattle.std.proofs.Common.{◌≡◌, ◌≢◌, ℕ, Bool, true, false, List, length, refl}
+use Rattle.std.proofs.Common.{◌≡◌, ℕ, true, false, List, length}
 use Rattle.ql_parse.specs.Lexemes.{Lexeme}
 use Rattle.ql_parse.specs.Rules.{Production, Rule, ◌then◌, ◌or◌, maybe, the, rule_of, enters}
 use Rattle.ql_parse.specs.Readings.{Parse, in_first, in_second, in_left, in_right, neither, in_part, by_its_rule, unexpected}

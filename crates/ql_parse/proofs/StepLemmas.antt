@@ -1,7 +1,7 @@
 -- What one token gives, and where it fails.
-use Rattle.std.proofs.Common.{◌≡◌, ◌≢◌, ℕ, Bool, true, false, List, [], ◌∷◌, length, drop, refl, ap, sym, ◌∙◌}
+use Rattle.std.proofs.Common.{◌≡◌, ℕ, Bool, true, false, List, [], ◌∷◌, length, drop, refl, ap}
 use Rattle.ql_lex.specs.declared.token.TokenKind.{TokenKind}
-use Rattle.std.specs.Prelude.{Option, Some, None, Result, Ok, Err, IsErrAnd, IfErr}
+use Rattle.std.specs.Prelude.{Some, Result, Ok, Err, IsErrAnd, IfErr}
 use Rattle.ql_parse.specs.Lexemes.{Lexeme, sees, kind_at, text_at}
 use Rattle.ql_parse.specs.Rules.{Rule, token, maybe, bracketed}
 use Rattle.ql_parse.specs.Readings.{Parse, leaf, present, absent, takes, left_out, entered, other_token, unexpected}

@@ -1,5 +1,5 @@
 -- A few values, computed by the definitions.
-use Rattle.std.proofs.Common.{◌≡◌, ℕ, ℤ, pos, negsuc, true, false, List, [], ◌∷◌, refl, sym, ap, ◌∙◌}
+use Rattle.std.proofs.Common.{◌≡◌, ℤ, pos, negsuc, true, false, List, [], ◌∷◌, refl, sym, ap, ◌∙◌}
 use Rattle.ql_value.specs.declared.operator.BinOp.{BinOp}
 use Rattle.ql_value.specs.declared.operator.BinOp.TheVariants as op
 use Rattle.ql_value.specs.declared.operator.UnOp.TheVariants as un
@@ -7,13 +7,11 @@ use Rattle.ql_value.specs.declared.value.Kind.TheVariants as k
 use Rattle.ql_value.specs.declared.value.Value.{Value}
 use Rattle.ql_value.specs.declared.value.Value.TheVariants as v
 use Rattle.ql_parse.specs.declared.syntax.Function.TheVariants as f
-use Rattle.ql_parse.specs.declared.typed.Typed.{Typed}
 use Rattle.ql_parse.specs.declared.typed.Typed.TheVariants as t
-use Rattle.ql_parse.specs.declared.typed.TypedLink.{TypedLink}
 use Rattle.ql_parse.specs.declared.typed.Typed.TheOpen.{Typed-F}
 use Rattle.ql_parse.specs.declared.typed.Typed.TheFolds.{fold-roll-Typed}
 use Rattle.ql_parse.specs.Values.{Outcome, Step, gives, refuses, divide, range, negative_count, chained, linked, prefixed, narrow_to, convert_to, called, is_in, contains, value_at, value_step, link_step}
-use Rattle.ql_parse.specs.Typing.{Typing, StepType, only_null, of_kind, ill, operator_type, chain_type, call_type}
+use Rattle.ql_parse.specs.Typing.{only_null, of_kind, ill, operator_type, chain_type, call_type}
 
 abbrev int : ℤ → Value
 int z = v.Int k.Int64 z

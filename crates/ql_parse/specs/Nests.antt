@@ -7,7 +7,7 @@ use Rattle.ql_parse.specs.declared.parse.fault.Fault.{Fault}
 use Rattle.ql_parse.specs.declared.syntax.Expr.{Expr}
 use Rattle.ql_parse.specs.declared.syntax.Select.{Select}
 use Rattle.ql_parse.specs.Lexemes.{Lexeme}
-use Rattle.ql_parse.specs.Rules.{Production, Rule, the, expr, select, enters}
+use Rattle.ql_parse.specs.Rules.{Rule, the, expr, select, enters}
 use Rattle.ql_parse.specs.Readings.{Parse, pair, cell, stop}
 use Rattle.ql_parse.specs.Parses.{Answers}
 use Rattle.ql_parse.specs.Trees.{expr_of, select_of}

@@ -1,5 +1,5 @@
 -- What a function of the parser answers: it reads by a rule, or tells where reading stops.
-use Rattle.std.specs.Prelude.{◌≡◌, ◌≢◌, ℕ, Bool, true, false, List, ◌∷◌, ◌++◌, length, Result, Ok, Err}
+use Rattle.std.specs.Prelude.{◌≡◌, ◌≢◌, ℕ, List, ◌++◌, length, Result, Ok, Err}
 use Rattle.ql_parse.specs.Lexemes.{Lexeme}
 use Rattle.ql_parse.specs.Rules.{Rule, bracketed}
 use Rattle.ql_parse.specs.Readings.{Parse, group, Reads, Stop, Stops, unexpected, too_nested}

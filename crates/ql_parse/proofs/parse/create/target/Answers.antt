@@ -1,5 +1,5 @@
 use Rattle.std.proofs.Common.{◌∙◌}
-use Rattle.ql_parse.specs.Readings.{pair, group, both, enclosed}
+use Rattle.ql_parse.specs.Readings.{pair, group, both}
 use Rattle.ql_parse.proofs.SelectLemmas.{same_pair}
 use Rattle.ql_parse.proofs.StatementLemmas.{enclosed_item}
 use Rattle.ql_parse.proofs.StepLemmas.{exits}

@@ -1,4 +1,3 @@
-use Rattle.std.proofs.Common.{sym, ◌∙◌}
 use Rattle.ql_lex.specs.declared.token.TokenKind.TheVariants as kind
 use Rattle.ql_parse.proofs.StepLemmas.{head_is}
 use Rattle.ql_parse.proofs.parse.kinds.begins_expr.Goals as goal

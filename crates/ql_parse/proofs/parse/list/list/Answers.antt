@@ -1,4 +1,4 @@
-use Rattle.std.proofs.Common.{refl, sym, ap, ◌++◌, ◌∙◌}
+use Rattle.std.proofs.Common.{sym, ◌∙◌}
 use Rattle.ql_parse.specs.Lexemes.{is_comma}
 use Rattle.ql_parse.proofs.StepLemmas.{exits}
 use Rattle.ql_parse.proofs.Loops.{first_member, first_fails, one_member, no_member, last_comma, member_fails, fewer}

@@ -1,8 +1,7 @@
-use Rattle.std.proofs.Common.{None, refl, sym, ap, ◌∙◌, ◌≡◌}
+use Rattle.std.proofs.Common.{None, sym, ap, ◌∙◌}
 use Rattle.ql_parse.specs.declared.syntax.Expr.TheVariants as e
 use Rattle.ql_parse.specs.Rules as rule
 use Rattle.ql_parse.specs.Readings.{pair, absent, present, node, both, left_out, entered, by_rule}
-use Rattle.ql_parse.specs.Parses.{no_value}
 use Rattle.ql_parse.proofs.StepLemmas.{exits, taken}
 use Rattle.ql_parse.proofs.Sequences.{fails_the, fails_first, fails_second, fails_part}
 use Rattle.ql_parse.proofs.parse.primary.column.Goals as goal

@@ -1,7 +1,7 @@
-use Rattle.std.proofs.Common.{◌≡◌, ℕ, sym, ap, ◌∙◌, length, All}
+use Rattle.std.proofs.Common.{◌≡◌, sym, ◌∙◌, length}
 use Rattle.ql_lex.proofs.PlaceLemmas.{whole_in}
 use Rattle.ql_parse.specs.declared.parse.fault.ParseFault.TheVariants as p
-use Rattle.ql_parse.specs.Lexemes.{Lexeme, lexemes}
+use Rattle.ql_parse.specs.Lexemes.{lexemes}
 use Rattle.ql_parse.specs.Parses.{Gives, Fails}
 use Rattle.ql_parse.specs.Rules as rule
 use Rattle.ql_parse.specs.Scripts.{limit}

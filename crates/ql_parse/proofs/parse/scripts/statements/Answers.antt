@@ -1,4 +1,4 @@
-use Rattle.std.proofs.Common.{◌≡◌, ◌≤◌, length, [], arith}
+use Rattle.std.proofs.Common.{arith}
 use Rattle.ql_parse.proofs.StepLemmas.{exits}
 use Rattle.ql_parse.proofs.ScriptLemmas.{gives_script, fails_left, none_left}
 use Rattle.ql_parse.proofs.Sequences.{fails_first, fails_second}

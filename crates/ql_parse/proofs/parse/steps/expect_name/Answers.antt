@@ -1,4 +1,4 @@
-use Rattle.std.proofs.Common.{refl, sym, ap, ◌∙◌}
+use Rattle.std.proofs.Common.{sym, ap, ◌∙◌}
 use Rattle.ql_parse.specs.Lexemes.{text_at}
 use Rattle.ql_parse.proofs.StepLemmas.{gives_token, fails_token}
 use Rattle.ql_parse.proofs.parse.steps.expect_name.Goals as goal

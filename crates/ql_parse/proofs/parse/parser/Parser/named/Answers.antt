@@ -1,7 +1,5 @@
-use Rattle.std.proofs.Common.{◌≡◌, Bool, true, false, sym, ap, ◌∙◌}
-use Rattle.ql_parse.specs.Functions.{named}
-use Rattle.ql_parse.specs.Lexemes.{sees, sees_two, is_count, is_function, is_open, text_at}
-use Rattle.ql_parse.specs.Trees.{function_named}
+use Rattle.std.proofs.Common.{true, false, sym, ◌∙◌}
+use Rattle.ql_parse.specs.Lexemes.{is_count, is_function, is_open}
 use Rattle.ql_parse.proofs.StepLemmas.{exits}
 use Rattle.ql_parse.proofs.CallLemmas.{two_behind, two_before, by_text, count_by_text, function_by_text, gives_column, fails_column, gives_count, fails_count, gives_call, fails_call, function_is_count, not_count}
 use Rattle.ql_parse.proofs.parse.parser.Parser.named.Goals as goal

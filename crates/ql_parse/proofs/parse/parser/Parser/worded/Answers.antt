@@ -1,4 +1,4 @@
-use Rattle.std.proofs.Common.{Some, Ok, Err, refl, sym, ap, ◌∙◌}
+use Rattle.std.proofs.Common.{Some, Ok, Err, refl, ap, ◌∙◌}
 use Rattle.ql_lex.specs.declared.token.TokenKind.TheVariants as kind
 use Rattle.ql_lex.specs.declared.words.Word.TheVariants as w
 use Rattle.ql_parse.specs.declared.statement.Statement.TheVariants as s
