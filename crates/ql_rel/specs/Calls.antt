@@ -1,5 +1,5 @@
 -- Conversions and the calls of functions.
-use Rattle.std.specs.Prelude.{Bool, true, false, not, if◌then◌else◌, List, [], ◌∷◌, Option, Some, None, Ok}
+use Rattle.std.specs.Prelude.{ℕ, ◌==◌, nat_lt, length, Bool, true, false, not, if◌then◌else◌, List, [], ◌∷◌, Option, Some, None, Ok}
 use Rattle.ql_rel.specs.declared.refusal.TheConstants.{COUNT, AGGREGATE}
 use Rattle.ql_value.specs.declared.value.Kind.{Kind}
 use Rattle.ql_value.specs.declared.value.Kind.TheVariants as k
@@ -34,14 +34,24 @@ call_by_table function parts = then_with (ruled (call_type function (types parts
 abbrev pub coalesce_of : List Checked → Answer Checked
 coalesce_of parts = then_with (meet_each (first_kind parts) parts) (λ met. call_by_table f.Coalesce met)
 
--- functions of a row but id, by the number of their parts
+-- how many parts a function takes
+abbrev pub takes : Function → ℕ → Bool
+takes f.Len n = n == 1
+takes f.Contains n = n == 2
+takes f.HasPrefix n = n == 2
+takes f.HasSuffix n = n == 2
+takes f.Coalesce n = nat_lt 0 n
+takes f.Count n = nat_lt n 2
+takes _ n = n == 1
+
+-- a call with the right number of parts
+abbrev pub row_value : Function → List Checked → Answer Checked
+row_value f.Coalesce parts = coalesce_of parts
+row_value function parts = call_by_table function parts
+
+-- functions of a row but id
 abbrev pub row_call : Function → List Checked → Answer Checked
-row_call f.Len (a ∷ []) = call_by_table f.Len (a ∷ [])
-row_call f.Contains (a ∷ b ∷ []) = call_by_table f.Contains (a ∷ b ∷ [])
-row_call f.HasPrefix (a ∷ b ∷ []) = call_by_table f.HasPrefix (a ∷ b ∷ [])
-row_call f.HasSuffix (a ∷ b ∷ []) = call_by_table f.HasSuffix (a ∷ b ∷ [])
-row_call f.Coalesce (a ∷ parts) = coalesce_of (a ∷ parts)
-row_call _ _ = refused COUNT
+row_call function parts = if takes function (length parts) then row_value function parts else refused COUNT
 
 -- the function is an aggregate, which gives a value of the rows of a group
 abbrev pub is_aggregate : Function → Bool
@@ -60,15 +70,28 @@ aggregate function kind part = known (of_kind kind) (t.Aggregate function kind p
 abbrev pub aggregate_of : Function → (Kind → Bool) → Checked → Answer Checked
 aggregate_of function test c = then_with (ruled (among test c.type)) (λ type. Ok (aggregate function (kind_or_int64 type) (Some c.tree)))
 
--- aggregates, by the number of their parts; `count(*)` has none
+-- the tree of the first part, if there is one
+abbrev pub first_tree : List Checked → Option Typed
+first_tree [] = None
+first_tree (c ∷ parts) = Some c.tree
+
+-- an aggregate of its first part
+abbrev pub aggregate_first : Function → (Kind → Bool) → List Checked → Answer Checked
+aggregate_first function test [] = refused COUNT
+aggregate_first function test (c ∷ parts) = aggregate_of function test c
+
+-- an aggregate with the right number of parts; `count(*)` has none
+abbrev pub group_value : Function → List Checked → Answer Checked
+group_value f.Count parts = Ok (aggregate f.Count k.Int64 (first_tree parts))
+group_value f.Sum parts = aggregate_first f.Sum is_integer parts
+group_value f.Avg parts = aggregate_first f.Avg is_integer parts
+group_value f.Min parts = aggregate_first f.Min (λ kind. not (is_truth kind)) parts
+group_value f.Max parts = aggregate_first f.Max (λ kind. not (is_truth kind)) parts
+group_value _ parts = refused COUNT
+
+-- aggregates
 abbrev pub group_call : Function → List Checked → Answer Checked
-group_call f.Count [] = Ok (aggregate f.Count k.Int64 None)
-group_call f.Count (c ∷ []) = Ok (aggregate f.Count k.Int64 (Some c.tree))
-group_call f.Sum (c ∷ []) = aggregate_of f.Sum is_integer c
-group_call f.Avg (c ∷ []) = aggregate_of f.Avg is_integer c
-group_call f.Min (c ∷ []) = aggregate_of f.Min (λ kind. not (is_truth kind)) c
-group_call f.Max (c ∷ []) = aggregate_of f.Max (λ kind. not (is_truth kind)) c
-group_call _ _ = refused COUNT
+group_call function parts = if takes function (length parts) then group_value function parts else refused COUNT
 
 -- an aggregate stands where one may stand, and not inside another
 abbrev pub allowed_call : Bool → Function → List Checked → Answer Checked

@@ -113,21 +113,14 @@ but_last [] = []
 but_last (o ∷ []) = []
 but_last (o ∷ p ∷ ops) = o ∷ but_last (p ∷ ops)
 
--- a literal without a minus
-abbrev pub is_unsigned : Option Literal → Bool
-is_unsigned (Some l) = not l.minus
-is_unsigned None = false
+-- operators before a part, by the table of operators; an untyped part stays untyped
+abbrev pub signed : List UnOp → Checked → Answer Checked
+signed ops c = then_with (ruled (prefixed_type ops c.type)) (λ type. Ok (record { literal = None; untyped = c.untyped; type = type; tree = t.Unary ops c.tree }))
 
--- the literal with a minus before it
-abbrev pub negative : Option Literal → Option Literal
-negative (Some l) = Some (record { minus = true; size = l.size })
-negative None = None
-
--- operators before a part whose literal, if it is one, has its minus
+-- operators, or none, before a part whose literal, if it is one, has its minus
 abbrev pub under : List UnOp → Checked → Answer Checked
 under [] c = Ok c
-under (o ∷ ops) c =
-    then_with (ruled (prefixed_type (o ∷ ops) c.type)) (λ type. Ok (record { literal = None; untyped = c.untyped; type = type; tree = t.Unary (o ∷ ops) c.tree }))
+under (o ∷ ops) c = signed (o ∷ ops) c
 
 -- operators before a part: a minus directly before a literal belongs to it
 abbrev pub prefixed_by : List UnOp → Option Literal → Checked → Answer Checked
