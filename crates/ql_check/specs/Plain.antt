@@ -1,5 +1,5 @@
 -- What the checker's own types stand for.
-use Rattle.std.specs.Prelude.{Bool, ◌||◌, not, Option, option_map}
+use Rattle.std.specs.Prelude.{Bool, true, false, ◌||◌, not, Option, option_map}
 use Rattle.ql_value.specs.declared.value.Kind.{Kind}
 use Rattle.ql_parse.specs.Kinds.{is_integer, is_truth, is_text, is_byte_list}
 use Rattle.ql_parse.specs.Typing as spec
@@ -40,3 +40,8 @@ plain c = record { literal = option_map plain_literal c.literal; untyped = c.unt
 -- the front of a chain
 abbrev pub plain_front : Front → operands.Front
 plain_front f = record { first = plain f.first; links = f.links }
+
+-- an expression of its own kind
+abbrev pub has_kind_of : Bool → spec.Typing → Bool
+has_kind_of false (spec.of_kind kind) = true
+has_kind_of _ _ = false

@@ -1,9 +1,13 @@
 //! Names and types: the plan of a statement, or its first refusal.
 #![tactic(auto)]
 
+mod call;
 mod checked;
+mod copy;
 mod fault;
 mod front;
+mod parts;
+mod predicate;
 mod prefix;
 mod table;
 

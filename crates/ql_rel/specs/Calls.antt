@@ -66,32 +66,33 @@ is_aggregate _ = false
 abbrev pub aggregate : Function → Kind → Option Typed → Checked
 aggregate function kind part = known (of_kind kind) (t.Aggregate function kind part)
 
+-- the first part, if there is one
+abbrev pub first_part : List Checked → Option Checked
+first_part [] = None
+first_part (c ∷ parts) = Some c
+
+-- `count` of a part, or of rows
+abbrev pub count_of : Option Checked → Checked
+count_of None = aggregate f.Count k.Int64 None
+count_of (Some c) = aggregate f.Count k.Int64 (Some c.tree)
+
 -- an aggregate of values of kinds that pass the test: it has their kind, int64 where they are all NULL
-abbrev pub aggregate_of : Function → (Kind → Bool) → Checked → Answer Checked
-aggregate_of function test c = then_with (ruled (among test c.type)) (λ type. Ok (aggregate function (kind_or_int64 type) (Some c.tree)))
+abbrev pub aggregate_first : Function → (Kind → Bool) → Option Checked → Answer Checked
+aggregate_first function test None = refused COUNT
+aggregate_first function test (Some c) = then_with (ruled (among test c.type)) (λ type. Ok (aggregate function (kind_or_int64 type) (Some c.tree)))
 
--- the tree of the first part, if there is one
-abbrev pub first_tree : List Checked → Option Typed
-first_tree [] = None
-first_tree (c ∷ parts) = Some c.tree
-
--- an aggregate of its first part
-abbrev pub aggregate_first : Function → (Kind → Bool) → List Checked → Answer Checked
-aggregate_first function test [] = refused COUNT
-aggregate_first function test (c ∷ parts) = aggregate_of function test c
-
--- an aggregate with the right number of parts; `count(*)` has none
-abbrev pub group_value : Function → List Checked → Answer Checked
-group_value f.Count parts = Ok (aggregate f.Count k.Int64 (first_tree parts))
-group_value f.Sum parts = aggregate_first f.Sum is_integer parts
-group_value f.Avg parts = aggregate_first f.Avg is_integer parts
-group_value f.Min parts = aggregate_first f.Min (λ kind. not (is_truth kind)) parts
-group_value f.Max parts = aggregate_first f.Max (λ kind. not (is_truth kind)) parts
-group_value _ parts = refused COUNT
+-- an aggregate of its part; `count(*)` has none
+abbrev pub group_value : Function → Option Checked → Answer Checked
+group_value f.Count part = Ok (count_of part)
+group_value f.Sum part = aggregate_first f.Sum is_integer part
+group_value f.Avg part = aggregate_first f.Avg is_integer part
+group_value f.Min part = aggregate_first f.Min (λ kind. not (is_truth kind)) part
+group_value f.Max part = aggregate_first f.Max (λ kind. not (is_truth kind)) part
+group_value _ part = refused COUNT
 
 -- aggregates
 abbrev pub group_call : Function → List Checked → Answer Checked
-group_call function parts = if takes function (length parts) then group_value function parts else refused COUNT
+group_call function parts = if takes function (length parts) then group_value function (first_part parts) else refused COUNT
 
 -- an aggregate stands where one may stand, and not inside another
 abbrev pub allowed_call : Bool → Function → List Checked → Answer Checked

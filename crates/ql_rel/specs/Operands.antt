@@ -163,9 +163,13 @@ in_list negated part list =
     then_with (meet_type type part) (λ a. then_with (meet_each type list) (λ xs.
     then_with (ruled (truth_of (meet_all a.type (types xs)))) (λ _. Ok (truth negated (t.IsIn a.tree (trees xs))))))
 
+-- an operator between two resolved parts
+abbrev pub pair : Typed → BinOp → Typed → Typed
+pair left o right = t.Chain left (link o right ∷ [])
+
 -- `(a >= x) && (a <= y)`
 abbrev pub between_tree : Typed → Typed → Typed → Typed
-between_tree a low high = t.Chain (t.Chain a (link op.Ge low ∷ [])) (link op.Both (t.Chain a (link op.Le high ∷ [])) ∷ [])
+between_tree a low high = pair (pair a op.Ge low) op.Both (pair a op.Le high)
 
 -- `a BETWEEN x AND y`: all parts have one kind, and not that of truths
 abbrev pub between : Bool → Checked → Checked → Checked → Answer Checked
