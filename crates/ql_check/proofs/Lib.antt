@@ -1,3 +1,4 @@
 pub mod Fronts
 pub mod Prefixes
 pub mod Turns
+pub mod Places

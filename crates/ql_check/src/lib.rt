@@ -9,6 +9,7 @@ mod front;
 mod parts;
 mod predicate;
 mod prefix;
+mod scope;
 mod table;
 
 pub use fault::CheckFault;
