@@ -1,4 +1,5 @@
 pub mod Fronts
 pub mod Prefixes
 pub mod Turns
+pub mod Ids
 pub mod Places

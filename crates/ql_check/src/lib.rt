@@ -4,6 +4,7 @@
 mod call;
 mod checked;
 mod copy;
+mod expression;
 mod fault;
 mod front;
 mod parts;

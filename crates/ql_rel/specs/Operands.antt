@@ -95,10 +95,14 @@ pub record Step : Type 0 where
   pub op : BinOp
   pub part : Answer Checked
 
+-- a front with one step more
+abbrev pub stepped : Front → Step → Answer Front
+stepped f s = then_with s.part (linked s.op f)
+
 -- a chain, from left to right
 abbrev pub chained : Front → List Step → Answer Front
 chained f [] = Ok f
-chained f (s ∷ steps) = then_with s.part (λ part. then_with (linked s.op f part) (λ g. chained g steps))
+chained f (s ∷ steps) = then_with (stepped f s) (λ g. chained g steps)
 
 -- the last operator is a minus
 abbrev pub ends_with_minus : List UnOp → Bool

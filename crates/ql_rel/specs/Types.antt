@@ -1,5 +1,5 @@
 -- The type of an expression in a scope, and the resolved expression; or the first refusal. All refusals of a part come before those of the expression that holds it.
-use Rattle.std.specs.Prelude.{ℕ, Bool, false, if◌then◌else◌, List, [], ◌∷◌, map, Option, Some, None, Ok}
+use Rattle.std.specs.Prelude.{ℕ, Bool, true, false, if◌then◌else◌, List, [], ◌∷◌, map, Option, Some, None, Ok}
 use Rattle.ql_value.specs.declared.operator.BinOp.{BinOp}
 use Rattle.ql_rel.specs.declared.refusal.TheConstants.{TYPE, COUNT, LATER}
 use Rattle.ql_value.specs.declared.value.Kind.TheVariants as k
@@ -46,36 +46,54 @@ abbrev pub answers : Bool → List Judged → Answer (List Checked)
 answers aggregates parts = all_of (map (λ part. part.answer aggregates) parts)
 
 -- the steps of a chain
+abbrev pub step_of : Bool → JudgedLink → Step
+step_of aggregates l = record { op = l.op; part = l.part.answer aggregates }
+
 abbrev pub steps : Bool → List JudgedLink → List Step
-steps aggregates links = map (λ l. record { op = l.op; part = l.part.answer aggregates }) links
+steps aggregates links = map (step_of aggregates) links
 
--- `id()`, and `id(T)` of a record set's name; another part is 5, and several are 6
-abbrev pub id_of_name : Scope → Option (List ℕ) → List ℕ → Answer Checked → Answer Checked
-id_of_name scope None name part = at_place (id_place_of scope name)
-id_of_name scope (Some set) name part = then_with part (λ _. refused TYPE)
+-- the name without a table that an expression is
+abbrev pub bare : Option (List ℕ) → List ℕ → Option (List ℕ)
+bare None name = Some name
+bare (Some set) name = None
 
-abbrev pub id_of_ref : Scope → Option Ref → Answer Checked → Answer Checked
-id_of_ref scope (Some r) part = id_of_name scope r.set r.column part
-id_of_ref scope None part = then_with part (λ _. refused TYPE)
+abbrev pub bare_name : Option Ref → Option (List ℕ)
+bare_name (Some r) = bare r.set r.column
+bare_name None = None
 
+-- `id(T)` of a record set's name; another part is 5
+abbrev pub id_of_part : Scope → Option (List ℕ) → Answer Checked → Answer Checked
+id_of_part scope (Some name) part = at_place (id_place_of scope name)
+id_of_part scope None part = then_with part (λ _. refused TYPE)
+
+-- `id()` and `id(T)`; several parts are 6
 abbrev pub id_call : Scope → Bool → List Judged → Answer Checked
 id_call scope aggregates [] = at_place (id_place scope)
-id_call scope aggregates (part ∷ []) = id_of_ref scope part.ref (part.answer aggregates)
+id_call scope aggregates (part ∷ []) = id_of_part scope (bare_name part.ref) (part.answer aggregates)
 id_call scope aggregates parts = then_with (answers aggregates parts) (λ _. refused COUNT)
+
+-- the function is id
+abbrev pub is_id : Function → Bool
+is_id f.Id = true
+is_id _ = false
 
 -- the call of a function; no aggregate may stand inside another
 abbrev pub call : Scope → Bool → Function → List Judged → Answer Checked
-call scope aggregates f.Id parts = id_call scope aggregates parts
 call scope aggregates function parts =
-    if is_aggregate function then then_with (answers false parts) (allowed_call aggregates function)
-    else then_with (answers aggregates parts) (row_call function)
+    if is_id function then id_call scope aggregates parts
+    else (if is_aggregate function then then_with (answers false parts) (allowed_call aggregates function)
+    else then_with (answers aggregates parts) (row_call function))
+
+-- a string
+abbrev pub text_of : List ℕ → Checked
+text_of bytes = known (of_kind k.Text) (t.Constant (v.Text bytes))
 
 -- an expression of one layer, from the answers for its parts
 abbrev pub expr_step : Scope → Expr-F Judged (Unit {0}) (Unit {0}) (Unit {0}) (Unit {0}) JudgedLink (Unit {0}) → Judged
 expr_step scope (Expr-F.Chain first rest) = judged (λ a. then_with (first.answer a) (λ c. then_with (chained (front_of c) (steps a rest)) (λ g. Ok (whole g))))
 expr_step scope (Expr-F.Unary ops part) = judged (λ a. then_with (part.answer a) (prefixed ops))
 expr_step scope (Expr-F.Number n) = judged (λ a. Ok (literal_of (record { minus = false; size = n })))
-expr_step scope (Expr-F.Text bytes) = judged (λ a. Ok (known (of_kind k.Text) (t.Constant (v.Text bytes))))
+expr_step scope (Expr-F.Text bytes) = judged (λ a. Ok (text_of bytes))
 expr_step scope (Expr-F.Truth truth) = judged (λ a. Ok (known (of_kind k.Bool) (t.Constant (v.Bool truth))))
 expr_step scope Expr-F.Null = judged (λ a. Ok (known only_null (t.Constant v.Null)))
 expr_step scope (Expr-F.Column set column) = record { ref = Some (record { set = set; column = column }); answer = λ a. at_place (column_place scope set column) }
