@@ -3,6 +3,7 @@ use Rattle.std.specs.Prelude.{◌≡◌, ℕ, List, [], ◌∷◌, map, Option, 
 use Rattle.std.specs.Borrow.{Bor}
 use Rattle.ql_value.specs.declared.refusal.Refusal.{Refusal}
 use Rattle.ql_parse.specs.declared.typed.Typed.TheVariants as t
+use Rattle.ql_rel.specs.declared.schema.TableSchema.{TableSchema}
 use Rattle.ql_rel.specs.Checked as checked
 use Rattle.ql_rel.specs.Scopes as spec
 use Rattle.ql_check.specs.declared.fault.CheckFault.{CheckFault}
@@ -18,6 +19,11 @@ use Rattle.ql_check.specs.Plain.{typing_of}
 abbrev pub bytes_of : Option (Bor (List ℕ)) → Option (List ℕ)
 bytes_of None = None
 bytes_of (Some name) = Some name.now
+
+-- a table, if there is one
+abbrev pub table_of : Option (Bor TableSchema) → Option TableSchema
+table_of None = None
+table_of (Some table) = Some table.now
 
 -- a place of a row
 abbrev pub plain_slot : Slot → spec.Slot

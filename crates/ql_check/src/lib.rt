@@ -1,11 +1,13 @@
 //! Names and types: the plan of a statement, or its first refusal.
 #![tactic(auto)]
 
+mod aggregate;
 mod call;
 mod checked;
 mod copy;
 mod expression;
 mod fault;
+mod from;
 mod front;
 mod parts;
 mod predicate;

@@ -49,7 +49,7 @@ enum Hit {
     Several,
 }
 
-fn is_called(own: &Option<Bytes>, name: &[u8]) -> bool
+pub(crate) fn is_called(own: &Option<Bytes>, name: &[u8]) -> bool
     ensures { result ≡ spec.is_called own.now name.now }
 {
     match own {

@@ -61,11 +61,15 @@ abbrev pub add_table : List Slot → List ℕ → List ℕ → Option TableSchem
 add_table slots set name None = refused_at NO_TABLE name
 add_table slots set name (Some table) = if is_taken set slots then refused_at AMBIGUOUS set else Ok (slots ++ set_slots set table.columns)
 
--- a further record set; subselects and metadata sets are not built yet
+-- a table or a set that describes the database itself as a further record set; the latter are not built yet
+abbrev pub add_named : Schema → List Slot → Option (List ℕ) → List ℕ → Answer (List Slot)
+add_named schema slots alias name =
+    if is_metadata name then refused LATER else add_table slots (set_name alias name) name (table_named name schema.tables)
+
+-- a further record set; subselects are not built yet
 abbrev pub add_source : Schema → List Slot → Option (List ℕ) → SetSource-F Expr SetSource Field FromSet Join Link Select → Answer (List Slot)
 add_source schema slots alias (SetSource-F.Query q) = refused LATER
-add_source schema slots alias (SetSource-F.Table name) =
-    if is_metadata name then refused LATER else add_table slots (set_name alias name) name (table_named name schema.tables)
+add_source schema slots alias (SetSource-F.Table name) = add_named schema slots alias name
 
 abbrev pub add_set : Schema → List Slot → FromSet → Answer (List Slot)
 add_set schema slots set = add_source schema slots (out-FromSet set).alias (out-SetSource (out-FromSet set).source)
@@ -164,33 +168,74 @@ abbrev pub is_some_list : {A : Type 0} → List A → Bool
 is_some_list [] = false
 is_some_list (x ∷ xs) = true
 
+-- what stands before the fields of a SELECT
+pub record Source : Type 0 where
+  pub slots : List Slot
+  pub filter : Option Typed
+  pub groups : List Typed
+
+-- FROM, join, WHERE and GROUP BY
+abbrev pub source_of : Schema → Select → Answer Source
+source_of schema select =
+    then_with (add_sets schema [] (out-Select select).sets) (λ slots.
+    then_with (without_join (out-Select select).join) (λ _.
+    then_with (tested_if is_truth (row_scope slots) (out-Select select).filter) (λ filter.
+    then_with (resolved (row_scope slots) (out-Select select).groups) (λ groups.
+    Ok (record { slots = slots; filter = filter; groups = groups })))))
+
+-- there is grouping where GROUP BY stands or a field has an aggregate
+abbrev pub is_grouped : List Typed → List Shown → Bool
+is_grouped groups fields = is_some_list groups || any_aggregate (map (λ x. x.tree) fields)
+
+-- what a SELECT shows, and by what it is ordered
+pub record Output : Type 0 where
+  pub fields : List Shown
+  pub grouped : Bool
+  pub keys : List Typed
+
+-- the fields, then ORDER BY
+abbrev pub output_of : Source → Select → Answer Output
+output_of source select =
+    then_with (shown source.slots (out-Select select).fields) (λ fields.
+    let grouped = is_grouped source.groups fields in
+    then_with (resolved (key_scope ((out-Select select).distinct || grouped) source.slots fields) (out-Select select).keys) (λ keys.
+    Ok (record { fields = fields; grouped = grouped; keys = keys })))
+
+-- LIMIT, then OFFSET; they see no column
+pub record Limits : Type 0 where
+  pub limit : Option Typed
+  pub offset : Option Typed
+
+abbrev pub limits_of : Select → Answer Limits
+limits_of select =
+    then_with (tested_if is_integer (row_scope []) (out-Select select).limit) (λ limit.
+    then_with (tested_if is_integer (row_scope []) (out-Select select).offset) (λ offset.
+    Ok (record { limit = limit; offset = offset })))
+
+-- the parts of a plan together
+abbrev pub plan_of : Source → Output → Limits → Plan
+plan_of source output limits = record {
+  fields = map (λ x. x.tree) output.fields;
+  names = map (λ x. x.name) output.fields;
+  filter = source.filter;
+  join_on = None;
+  groups = source.groups;
+  grouped = output.grouped;
+  keys = output.keys;
+  limit = limits.limit;
+  offset = limits.offset;
+  rows = [];
+  targets = [];
+  rules = [];
+  defaults = [];
+}
+
 -- the plan of a SELECT: FROM, join, WHERE, GROUP BY, fields, ORDER BY, LIMIT, OFFSET
 abbrev pub select_plan : Schema → Select → Answer Plan
 select_plan schema select =
-    let q = out-Select select in
-    then_with (add_sets schema [] q.sets) (λ slots.
-    then_with (without_join q.join) (λ _.
-    then_with (tested_if is_truth (row_scope slots) q.filter) (λ filter.
-    then_with (resolved (row_scope slots) q.groups) (λ groups.
-    then_with (shown slots q.fields) (λ fields.
-    let grouped = is_some_list groups || any_aggregate (map (λ x. x.tree) fields) in
-    then_with (resolved (key_scope (q.distinct || grouped) slots fields) q.keys) (λ keys.
-    then_with (tested_if is_integer (row_scope []) q.limit) (λ limit.
-    then_with (tested_if is_integer (row_scope []) q.offset) (λ offset. Ok (record {
-      fields = map (λ x. x.tree) fields;
-      names = map (λ x. x.name) fields;
-      filter = filter;
-      join_on = None;
-      groups = groups;
-      grouped = grouped;
-      keys = keys;
-      limit = limit;
-      offset = offset;
-      rows = [];
-      targets = [];
-      rules = [];
-      defaults = [];
-    })))))))))
+    then_with (source_of schema select) (λ source.
+    then_with (output_of source select) (λ output.
+    then_with (limits_of select) (λ limits. Ok (plan_of source output limits))))
 
 -- the plan of a statement; all but SELECT are not built yet
 abbrev pub plan : Schema → Statement → Answer Plan
