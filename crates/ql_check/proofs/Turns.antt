@@ -22,6 +22,21 @@ pub end : {A : Type 0} (done : List A) → behind done (all_of []) ≡ Ok done
 end done = rw append-nil refl
 
 -- one thing more of a list
+pub turn_same : {X A : Type 0} (f : X → Answer A) (all : List X) (i : ℕ) (x d : X) (list new : List A) (y : A) (total : Answer (List A)) → i < length all → x ≡ get_or all i d → f x ≡ Ok y → new ≡ list ++ y ∷ [] → behind list (all_of (map f (drop i all))) ≡ total → behind new (all_of (map f (drop (i + 1) all))) ≡ total
+turn_same f all i x d list new y total h e a n w =
+    let here : drop i all ≡ x ∷ drop (i + 1) all = drop_more all i d h ∙ ap (λ z. z ∷ drop (i + 1) all) (sym e) in
+    let before : behind list (all_of (map f (x ∷ drop (i + 1) all))) ≡ total = subst (λ l. behind list (all_of (map f l)) ≡ total) here w in
+    subst (λ l. behind l (all_of (map f (drop (i + 1) all))) ≡ total) (sym n) (sym (turn list y (f x) (map f (drop (i + 1) all)) a) ∙ before)
+
+-- the same where the things that are there stand for others
+pub turn_of : {X Y A : Type 0} (f : X → Answer A) (g : Y → A) (all : List X) (i : ℕ) (x d : X) (list new : List Y) (y : Y) (total : Answer (List A)) → i < length all → x ≡ get_or all i d → f x ≡ Ok (g y) → new ≡ list ++ y ∷ [] → behind (map g list) (all_of (map f (drop i all))) ≡ total → behind (map g new) (all_of (map f (drop (i + 1) all))) ≡ total
+turn_of f g all i x d list new y total h e a n w =
+    let here : drop i all ≡ x ∷ drop (i + 1) all = drop_more all i d h ∙ ap (λ z. z ∷ drop (i + 1) all) (sym e) in
+    let before : behind (map g list) (all_of (map f (x ∷ drop (i + 1) all))) ≡ total = subst (λ l. behind (map g list) (all_of (map f l)) ≡ total) here w in
+    let grown : map g new ≡ map g list ++ g y ∷ [] = ap (map g) n ∙ map-append g list (y ∷ []) in
+    subst (λ l. behind l (all_of (map f (drop (i + 1) all))) ≡ total) (sym grown) (sym (turn (map g list) (g y) (f x) (map f (drop (i + 1) all)) a) ∙ before)
+
+-- the same where something is done to each thing first
 pub turn_at : {X P Y A : Type 0} (f : P → Answer A) (j : X → P) (g : Y → A) (all : List X) (i : ℕ) (x d : X) (list new : List Y) (y : Y) (total : Answer (List A)) → i < length all → x ≡ get_or all i d → f (j x) ≡ Ok (g y) → new ≡ list ++ y ∷ [] → behind (map g list) (all_of (map f (map j (drop i all)))) ≡ total → behind (map g new) (all_of (map f (map j (drop (i + 1) all)))) ≡ total
 turn_at f j g all i x d list new y total h e a n w =
     let here : drop i all ≡ x ∷ drop (i + 1) all = drop_more all i d h ∙ ap (λ z. z ∷ drop (i + 1) all) (sym e) in

@@ -1,3 +1,4 @@
 pub mod Plain
 pub mod Gives
 pub mod Names
+pub mod Outputs

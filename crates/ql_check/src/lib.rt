@@ -13,7 +13,11 @@ mod parts;
 mod predicate;
 mod prefix;
 mod scope;
+mod select;
+mod shown;
+mod statement;
 mod table;
 
+pub use statement::check;
 pub use fault::CheckFault;
 pub use ql_rel::Plan;

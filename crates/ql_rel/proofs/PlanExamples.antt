@@ -11,7 +11,7 @@ use Rattle.ql_parse.specs.Typing.{of_kind}
 use Rattle.ql_rel.specs.declared.schema.Schema.{Schema}
 use Rattle.ql_rel.specs.Answers.{refused, refused_at}
 use Rattle.ql_rel.specs.Scopes.{Slot, column_place}
-use Rattle.ql_rel.specs.Plans.{Shown, add_table, add_source, add_set, set_slots, star, key_scope, table_named}
+use Rattle.ql_rel.specs.Plans.{Shown, add_table, add_source, add_set, set_slots, star, key_scope, row_scope, table_named}
 
 abbrev column : List ℕ → Kind → ColumnDef
 column name kind = record { name = name; kind = kind; not_null = false; rule = None; default = None }
@@ -53,20 +53,20 @@ abbrev field : List ℕ → Shown
 field name = record { name = name; type = of_kind k.Text; tree = t.Place 1 }
 
 -- ORDER BY: two fields of one name are ambiguous, a field stands before a column, and with DISTINCT or grouping no column is seen
-two_fields : column_place (key_scope false t_slots (field (codes "a") ∷ field (codes "a") ∷ [])) None (codes "a") ≡ refused_at 3 (codes "a")
+two_fields : column_place (key_scope false (row_scope t_slots) (field (codes "a") ∷ field (codes "a") ∷ [])) None (codes "a") ≡ refused_at 3 (codes "a")
 two_fields = refl
 
-field_first : column_place (key_scope false t_slots (field (codes "a") ∷ [])) None (codes "a") ≡ Ok (record { at = 2; type = of_kind k.Text })
+field_first : column_place (key_scope false (row_scope t_slots) (field (codes "a") ∷ [])) None (codes "a") ≡ Ok (record { at = 2; type = of_kind k.Text })
 field_first = refl
 
-row_next : column_place (key_scope false t_slots (field (codes "b") ∷ [])) None (codes "a") ≡ Ok (record { at = 1; type = of_kind k.Int8 })
+row_next : column_place (key_scope false (row_scope t_slots) (field (codes "b") ∷ [])) None (codes "a") ≡ Ok (record { at = 1; type = of_kind k.Int8 })
 row_next = refl
 
-row_hidden : column_place (key_scope true t_slots (field (codes "b") ∷ [])) None (codes "a") ≡ refused_at 2 (codes "a")
+row_hidden : column_place (key_scope true (row_scope t_slots) (field (codes "b") ∷ [])) None (codes "a") ≡ refused_at 2 (codes "a")
 row_hidden = refl
 
 -- `ORDER BY t.a` means a field that is named `t.a`, and not one that is named `a`
-as_written : column_place (key_scope true t_slots (field (codes "a") ∷ field (codes "t.a") ∷ [])) (Some (codes "t")) (codes "a") ≡ Ok (record { at = 3; type = of_kind k.Text })
+as_written : column_place (key_scope true (row_scope t_slots) (field (codes "a") ∷ field (codes "t.a") ∷ [])) (Some (codes "t")) (codes "a") ≡ Ok (record { at = 3; type = of_kind k.Text })
 as_written = refl
 
 -- `FROM t AS x`, and a set that describes the database itself

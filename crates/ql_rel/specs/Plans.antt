@@ -26,7 +26,7 @@ use Rattle.ql_rel.specs.declared.schema.TableSchema.{TableSchema}
 use Rattle.ql_rel.specs.Answers.{Answer, refused, refused_at, then_with, all_of}
 use Rattle.ql_rel.specs.Scopes.{Slot, Scope, is_called, written}
 use Rattle.ql_rel.specs.Checked.{ruled}
-use Rattle.ql_rel.specs.Types.{Ref, judge, checked}
+use Rattle.ql_rel.specs.Types.{Ref, plain_name, checked}
 use Rattle.ql_rel.specs.Aggregates.{any_aggregate}
 
 -- the table with a name
@@ -97,9 +97,12 @@ abbrev pub tested_if : (Kind → Bool) → Scope → Option Expr → Answer (Opt
 tested_if test scope None = Ok None
 tested_if test scope (Some e) = then_with (tested test scope e) (λ tree. Ok (Some tree))
 
--- expressions without aggregate, of any types
+-- an expression without aggregate, of any type
+abbrev pub resolved_one : Scope → Expr → Answer Typed
+resolved_one scope e = then_with (checked scope false e) (λ c. Ok c.tree)
+
 abbrev pub resolved : Scope → List Expr → Answer (List Typed)
-resolved scope exprs = all_of (map (λ e. then_with (checked scope false e) (λ c. Ok c.tree)) exprs)
+resolved scope exprs = all_of (map (resolved_one scope) exprs)
 
 -- what a SELECT shows in one column
 pub record Shown : Type 0 where
@@ -115,7 +118,7 @@ field_name None None = []
 
 -- a field
 abbrev pub shown_field : Scope → Option (List ℕ) → Expr → Answer Shown
-shown_field scope alias e = then_with (checked scope true e) (λ c. Ok (record { name = field_name alias (judge scope e).ref; type = c.type; tree = c.tree }))
+shown_field scope alias e = then_with (checked scope true e) (λ c. Ok (record { name = field_name alias (plain_name e); type = c.type; tree = c.tree }))
 
 -- the name of a column of `*`: with that of its set, where several sets have one
 abbrev pub star_name : Bool → Option (List ℕ) → List ℕ → List ℕ
@@ -141,36 +144,51 @@ abbrev pub named_sets : List Slot → ℕ
 named_sets [] = 0
 named_sets (slot ∷ slots) = if is_named_set slot.set slot.column then suc (named_sets slots) else named_sets slots
 
+-- two record sets or more have a name
+abbrev pub are_several : List Slot → Bool
+are_several slots = nat_lt 1 (named_sets slots)
+
 -- `*`: 6 without a record set
 abbrev pub star : List Slot → Answer (List Shown)
 star [] = refused COUNT
-star (slot ∷ slots) = Ok (star_fields (nat_lt 1 (named_sets (slot ∷ slots))) 0 (slot ∷ slots))
+star (slot ∷ slots) = Ok (star_fields (are_several (slot ∷ slots)) 0 (slot ∷ slots))
+
+-- fields that are written
+abbrev pub shown_fields : Scope → List Field → Answer (List Shown)
+shown_fields scope fields = all_of (map (λ x. shown_field scope (out-Field x).alias (out-Field x).expr) fields)
 
 -- what a SELECT shows; no fields stand for `*`
-abbrev pub shown : List Slot → List Field → Answer (List Shown)
-shown slots [] = star slots
-shown slots (field ∷ fields) = all_of (map (λ x. shown_field (row_scope slots) (out-Field x).alias (out-Field x).expr) (field ∷ fields))
+abbrev pub shown : Scope → List Field → Answer (List Shown)
+shown scope [] = star scope.seen
+shown scope (field ∷ fields) = shown_fields scope (field ∷ fields)
+
+-- an aggregate stands in a field
+abbrev pub any_shown : List Shown → Bool
+any_shown fields = any_aggregate (map (λ x. x.tree) fields)
 
 -- a field as a place behind the row
 abbrev pub place_name : List ℕ → Option (List ℕ)
 place_name [] = None
 place_name (b ∷ name) = Some (b ∷ name)
 
+abbrev pub field_slot : Shown → Slot
+field_slot x = record { set = None; column = place_name x.name; type = x.type }
+
 abbrev pub field_slots : List Shown → List Slot
-field_slots fields = map (λ x. record { set = None; column = place_name x.name; type = x.type }) fields
+field_slots fields = map field_slot fields
 
 -- what ORDER BY sees: the fields, and the row where neither DISTINCT nor grouping hides it
-abbrev pub key_scope : Bool → List Slot → List Shown → Scope
-key_scope hides slots fields = record { seen = (if hides then [] else slots); fields = field_slots fields; width = length slots }
+abbrev pub key_scope : Bool → Scope → List Shown → Scope
+key_scope hides row fields = record { seen = (if hides then [] else row.seen); fields = field_slots fields; width = row.width }
 
 -- the list has a member
 abbrev pub is_some_list : {A : Type 0} → List A → Bool
 is_some_list [] = false
 is_some_list (x ∷ xs) = true
 
--- what stands before the fields of a SELECT
+-- what stands before the fields of a SELECT: the row, the condition of WHERE, and GROUP BY
 pub record Source : Type 0 where
-  pub slots : List Slot
+  pub row : Scope
   pub filter : Option Typed
   pub groups : List Typed
 
@@ -179,26 +197,23 @@ abbrev pub source_of : Schema → Select → Answer Source
 source_of schema select =
     then_with (add_sets schema [] (out-Select select).sets) (λ slots.
     then_with (without_join (out-Select select).join) (λ _.
-    then_with (tested_if is_truth (row_scope slots) (out-Select select).filter) (λ filter.
-    then_with (resolved (row_scope slots) (out-Select select).groups) (λ groups.
-    Ok (record { slots = slots; filter = filter; groups = groups })))))
+    let row = row_scope slots in
+    then_with (tested_if is_truth row (out-Select select).filter) (λ filter.
+    then_with (resolved row (out-Select select).groups) (λ groups.
+    Ok (record { row = row; filter = filter; groups = groups })))))
 
--- there is grouping where GROUP BY stands or a field has an aggregate
-abbrev pub is_grouped : List Typed → List Shown → Bool
-is_grouped groups fields = is_some_list groups || any_aggregate (map (λ x. x.tree) fields)
-
--- what a SELECT shows, and by what it is ordered
+-- what a SELECT shows, whether there is grouping, and by what it is ordered
 pub record Output : Type 0 where
   pub fields : List Shown
   pub grouped : Bool
   pub keys : List Typed
 
--- the fields, then ORDER BY
-abbrev pub output_of : Source → Select → Answer Output
-output_of source select =
-    then_with (shown source.slots (out-Select select).fields) (λ fields.
-    let grouped = is_grouped source.groups fields in
-    then_with (resolved (key_scope ((out-Select select).distinct || grouped) source.slots fields) (out-Select select).keys) (λ keys.
+-- the fields, then ORDER BY; there is grouping where GROUP BY stands or a field has an aggregate
+abbrev pub output_of : Scope → Bool → Select → Answer Output
+output_of row grouped_by select =
+    then_with (shown row (out-Select select).fields) (λ fields.
+    let grouped = grouped_by || any_shown fields in
+    then_with (resolved (key_scope ((out-Select select).distinct || grouped) row fields) (out-Select select).keys) (λ keys.
     Ok (record { fields = fields; grouped = grouped; keys = keys })))
 
 -- LIMIT, then OFFSET; they see no column
@@ -213,13 +228,13 @@ limits_of select =
     Ok (record { limit = limit; offset = offset })))
 
 -- the parts of a plan together
-abbrev pub plan_of : Source → Output → Limits → Plan
-plan_of source output limits = record {
+abbrev pub plan_of : Option Typed → List Typed → Output → Limits → Plan
+plan_of filter groups output limits = record {
   fields = map (λ x. x.tree) output.fields;
   names = map (λ x. x.name) output.fields;
-  filter = source.filter;
+  filter = filter;
   join_on = None;
-  groups = source.groups;
+  groups = groups;
   grouped = output.grouped;
   keys = output.keys;
   limit = limits.limit;
@@ -234,8 +249,8 @@ plan_of source output limits = record {
 abbrev pub select_plan : Schema → Select → Answer Plan
 select_plan schema select =
     then_with (source_of schema select) (λ source.
-    then_with (output_of source select) (λ output.
-    then_with (limits_of select) (λ limits. Ok (plan_of source output limits))))
+    then_with (output_of source.row (is_some_list source.groups) select) (λ output.
+    then_with (limits_of select) (λ limits. Ok (plan_of source.filter source.groups output limits))))
 
 -- the plan of a statement; all but SELECT are not built yet
 abbrev pub plan : Schema → Statement → Answer Plan

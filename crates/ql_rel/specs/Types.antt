@@ -4,12 +4,17 @@ use Rattle.ql_value.specs.declared.operator.BinOp.{BinOp}
 use Rattle.ql_rel.specs.declared.refusal.TheConstants.{TYPE, COUNT, LATER}
 use Rattle.ql_value.specs.declared.value.Kind.TheVariants as k
 use Rattle.ql_value.specs.declared.value.Value.TheVariants as v
-use Rattle.ql_parse.specs.declared.syntax.Expr.{Expr}
+use Rattle.ql_parse.specs.declared.syntax.Expr.{Expr, out-Expr}
 use Rattle.ql_parse.specs.declared.syntax.Expr.TheOpen.{Expr-F, Link-F}
 use Rattle.ql_parse.specs.declared.syntax.Expr.TheFolds.{fold-Expr, fold-Link}
+use Rattle.ql_parse.specs.declared.syntax.Field.{Field}
+use Rattle.ql_parse.specs.declared.syntax.FromSet.{FromSet}
 use Rattle.ql_parse.specs.declared.syntax.Function.{Function}
 use Rattle.ql_parse.specs.declared.syntax.Function.TheVariants as f
+use Rattle.ql_parse.specs.declared.syntax.Join.{Join}
 use Rattle.ql_parse.specs.declared.syntax.Link.{Link}
+use Rattle.ql_parse.specs.declared.syntax.Select.{Select}
+use Rattle.ql_parse.specs.declared.syntax.SetSource.{SetSource}
 use Rattle.ql_parse.specs.declared.typed.Typed.TheVariants as t
 use Rattle.ql_parse.specs.Typing.{only_null, of_kind}
 use Rattle.ql_rel.specs.Answers.{Answer, refused, then_with, all_of}
@@ -32,6 +37,14 @@ pub record Judged : Type 0 where
 pub record JudgedLink : Type 0 where
   pub op : BinOp
   pub part : Judged
+
+-- the plain name that an expression is, by itself
+abbrev pub ref_of : Expr-F Expr SetSource Field FromSet Join Link Select → Option Ref
+ref_of (Expr-F.Column set column) = Some (record { set = set; column = column })
+ref_of _ = None
+
+abbrev pub plain_name : Expr → Option Ref
+plain_name e = ref_of (out-Expr e)
 
 -- an expression that is no plain name
 abbrev pub judged : (Bool → Answer Checked) → Judged
