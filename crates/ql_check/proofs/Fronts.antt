@@ -1,5 +1,5 @@
 -- Chains with and without links.
-use Rattle.std.proofs.Common.{◌≡◌, ℕ, ◌<◌, ◌≤◌, List, [], ◌∷◌, length, None, refl, arith}
+use Rattle.std.proofs.Common.{◌≡◌, ◌<◌, ◌≤◌, List, [], ◌∷◌, length, None, refl, arith}
 use Rattle.ql_parse.specs.declared.typed.Typed.TheVariants as t
 use Rattle.ql_parse.specs.declared.typed.TypedLink.{TypedLink}
 use Rattle.ql_rel.specs.Checked.{Checked}

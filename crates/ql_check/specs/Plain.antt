@@ -1,5 +1,5 @@
 -- What the checker's own types stand for.
-use Rattle.std.specs.Prelude.{Bool, true, false, ◌||◌, not, Option, option_map}
+use Rattle.std.specs.Prelude.{Bool, true, false, ◌||◌, not, option_map}
 use Rattle.ql_value.specs.declared.value.Kind.{Kind}
 use Rattle.ql_parse.specs.Kinds.{is_integer, is_truth, is_text, is_byte_list}
 use Rattle.ql_parse.specs.Typing as spec

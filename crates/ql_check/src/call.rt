@@ -6,7 +6,7 @@ ghost use Rattle.ql_check.specs.Gives.{Gives};
 ghost use Rattle.ql_check.specs.Plain.{plain, test_of, typing_of};
 
 use crate::CheckFault;
-use crate::checked::{Checked, CheckedList, known, kind_or_int64, literal_in, ruled};
+use crate::checked::{Checked, CheckedList, kind_or_int64, known, literal_in, ruled};
 use crate::fault::refused;
 use crate::parts::{first_kind, meet_all, meet_each, trees};
 use crate::table::{Group, Typing, among, given_type, is_integer, meet, truth_of};
@@ -59,10 +59,7 @@ fn question_type(parts: &[Checked]) -> Typing
     if parts.len() != 2 {
         return Typing::Ill;
     }
-    truth_of(among(
-        Group::Strings,
-        meet(parts[0].typing, parts[1].typing),
-    ))
+    truth_of(among(Group::Strings, meet(parts[0].typing, parts[1].typing)))
 }
 
 /// The one type of the parts of coalesce.

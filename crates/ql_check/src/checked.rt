@@ -100,11 +100,7 @@ pub(crate) fn bracketed(checked: Checked) -> Checked
 }
 
 /// A literal as a number of an integer kind.
-pub(crate) fn literal_in(
-    alloc: Global,
-    kind: Kind,
-    literal: Literal,
-) -> Result<Checked, CheckFault>
+pub(crate) fn literal_in(alloc: Global, kind: Kind, literal: Literal) -> Result<Checked, CheckFault>
     requires { IsInteger kind }
     ensures { Gives plain (spec.literal_in kind (plain_literal literal)) result }
 {
@@ -146,13 +142,7 @@ pub(crate) fn integer_of(typing: Typing) -> Option<Kind>
     ensures { MatchOption result (spec.is_number_type (typing_of typing) ≡ false) (λ kind. (spec.is_number_type (typing_of typing) ≡ true) × (spec.kind_or_int64 (typing_of typing) ≡ kind) × IsInteger kind) }
 {
     match typing {
-        Typing::OfKind(kind) => {
-            if is_integer(kind) {
-                Some(kind)
-            } else {
-                None
-            }
-        }
+        Typing::OfKind(kind) => { if is_integer(kind) { Some(kind) } else { None } }
         _ => None,
     }
 }

@@ -133,12 +133,7 @@ fn add_named(
 }
 
 /// A further record set.
-fn add_set(
-    alloc: Global,
-    schema: &Schema,
-    slots: Slots,
-    set: &FromSet,
-) -> Result<Slots, CheckFault>
+fn add_set(alloc: Global, schema: &Schema, slots: Slots, set: &FromSet) -> Result<Slots, CheckFault>
     ensures { Gives (map plain_slot) (spec.add_set schema.now (map plain_slot slots) set.now) result }
 {
     match &set.source {
@@ -148,11 +143,7 @@ fn add_set(
 }
 
 /// The record sets of a FROM, from left to right.
-pub(crate) fn add_sets(
-    alloc: Global,
-    schema: &Schema,
-    sets: &FromSets,
-) -> Result<Slots, CheckFault>
+pub(crate) fn add_sets(alloc: Global, schema: &Schema, sets: &FromSets) -> Result<Slots, CheckFault>
     ensures { Gives (map plain_slot) (spec.add_sets schema.now [] sets.now) result }
 {
     let mut slots = Slots::new(alloc);

@@ -18,6 +18,6 @@ mod shown;
 mod statement;
 mod table;
 
-pub use statement::check;
 pub use fault::CheckFault;
 pub use ql_rel::Plan;
+pub use statement::check;

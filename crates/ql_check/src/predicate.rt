@@ -23,10 +23,7 @@ fn truth(alloc: Global, negated: bool, tree: Typed) -> Result<Checked, CheckFaul
     let mut ops = UnOps::new(alloc);
     ops.push(UnOp::Not)?;
     let part = Boxed::new(alloc, tree)?;
-    Ok(known(
-        Typing::OfKind(Kind::Bool),
-        Typed::Unary { ops, part },
-    ))
+    Ok(known(Typing::OfKind(Kind::Bool), Typed::Unary { ops, part }))
 }
 
 /// `part IN (list)`
@@ -97,11 +94,7 @@ pub(crate) fn between(
 }
 
 /// `part IS NULL`
-pub(crate) fn null_test(
-    alloc: Global,
-    negated: bool,
-    part: Checked,
-) -> Result<Checked, CheckFault>
+pub(crate) fn null_test(alloc: Global, negated: bool, part: Checked) -> Result<Checked, CheckFault>
     ensures { Gives plain (Ok (spec.null_test negated (plain part))) result }
 {
     let part = Boxed::new(alloc, part.tree)?;

@@ -76,11 +76,7 @@ fn signed(alloc: Global, ops: &[UnOp], checked: Checked) -> Result<Checked, Chec
 }
 
 /// Operators before a part. A minus directly before a literal belongs to it.
-pub(crate) fn prefixed(
-    alloc: Global,
-    ops: &[UnOp],
-    checked: Checked,
-) -> Result<Checked, CheckFault>
+pub(crate) fn prefixed(alloc: Global, ops: &[UnOp], checked: Checked) -> Result<Checked, CheckFault>
     ensures { Gives plain (spec.prefixed ops.now (plain checked)) result }
 {
     match checked.literal {

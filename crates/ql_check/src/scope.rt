@@ -89,13 +89,7 @@ fn further(hit: Hit, found: Found) -> Hit
 }
 
 /// One slot more.
-fn looked_at(
-    hit: Hit,
-    set: Option<&[u8]>,
-    column: Option<&[u8]>,
-    at: u32,
-    slot: &Slot,
-) -> Hit
+fn looked_at(hit: Hit, set: Option<&[u8]>, column: Option<&[u8]>, at: u32, slot: &Slot) -> Hit
     ensures { (list : List spec.Found) → Hits hit list → Hits result (list ++ spec.found (bytes_of set.entry) (bytes_of column.entry) at (plain_slot slot.now ∷ [])) }
 {
     if is_of_set(set, slot) && is_of_column(column, slot) {
@@ -230,11 +224,7 @@ pub(crate) fn id_of_all(alloc: Global, scope: &Scope) -> Result<Checked, CheckFa
 }
 
 /// The id of the record set with a name.
-pub(crate) fn id_of_set(
-    alloc: Global,
-    scope: &Scope,
-    set: &[u8],
-) -> Result<Checked, CheckFault>
+pub(crate) fn id_of_set(alloc: Global, scope: &Scope, set: &[u8]) -> Result<Checked, CheckFault>
     ensures { Gives plain (at_place (spec.id_place_of (plain_scope scope.now) set.now)) result }
 {
     let hit = search(Some(set), None, 0, scope.seen.as_slice())?;

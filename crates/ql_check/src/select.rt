@@ -85,12 +85,7 @@ fn key_scope(
 }
 
 /// An expression without aggregate, whose kind is of a group.
-fn tested(
-    alloc: Global,
-    group: Group,
-    scope: &Scope,
-    expr: &Expr,
-) -> Result<Typed, CheckFault>
+fn tested(alloc: Global, group: Group, scope: &Scope, expr: &Expr) -> Result<Typed, CheckFault>
     ensures { Gives same (spec.tested (test_of group) (plain_scope scope.now) expr.now) result }
 {
     let checked = check_expr(alloc, expr, scope, false)?;
@@ -241,6 +236,13 @@ fn plan_of(
     })
 }
 
+/// Whether GROUP BY stands.
+fn has_groups(groups: &Typeds) -> bool
+    ensures { result ≡ spec.is_some_list groups.now }
+{
+    groups.len() > 0
+}
+
 /// The plan of a SELECT.
 pub(crate) fn select_plan(
     alloc: Global,
@@ -254,7 +256,7 @@ pub(crate) fn select_plan(
         filter,
         groups,
     } = source_of(alloc, schema, select)?;
-    let output = output_of(alloc, scope, groups.len() > 0, select)?;
+    let output = output_of(alloc, scope, has_groups(&groups), select)?;
     let limits = limits_of(alloc, select)?;
     plan_of(alloc, filter, groups, output, limits)
 }

@@ -179,7 +179,11 @@ fn star(alloc: Global, slots: &[Slot]) -> Result<ShownList, CheckFault>
 }
 
 /// What a SELECT shows.
-pub(crate) fn fields_of(alloc: Global, scope: &Scope, fields: &Fields) -> Result<ShownList, CheckFault>
+pub(crate) fn fields_of(
+    alloc: Global,
+    scope: &Scope,
+    fields: &Fields,
+) -> Result<ShownList, CheckFault>
     ensures { Gives (map plain_shown) (spec.shown (plain_scope scope.now) fields.now) result }
 {
     if fields.len() == 0 {

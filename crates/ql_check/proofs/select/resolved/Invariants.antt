@@ -1,7 +1,6 @@
-use Rattle.std.proofs.Common.{◌≡◌, map, drop}
+use Rattle.std.proofs.Common.{◌≡◌, drop}
 use Rattle.ql_rel.specs.Plans as spec
 use Rattle.ql_check.specs.Names.{plain_scope}
-use Rattle.ql_check.specs.Gives.{same}
 use Rattle.ql_check.proofs.Turns.{behind}
 use Rattle.ql_check.proofs.select.resolved.Given as goal
 
