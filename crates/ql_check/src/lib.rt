@@ -21,3 +21,6 @@ mod table;
 pub use fault::CheckFault;
 pub use ql_rel::Plan;
 pub use statement::check;
+
+#[cfg(test)]
+mod tests;
