@@ -21,7 +21,7 @@ pub use length::{key_length, row_length};
 pub use operator::{BinOp, UnOp, UnOps};
 pub use order::compare;
 pub use print::{print_number, print_text, print_value};
-pub use refusal::{EXISTS, NO_TABLE, Refusal};
+pub use refusal::{EXISTS, LATER, NO_TABLE, Refusal};
 pub use value::{Kind, Value, Values, copy_value};
 
 #[cfg(test)]

@@ -9,6 +9,9 @@ pub const NO_TABLE: u8 = 1;
 /// The refusal of a statement that makes a table that is there.
 pub const EXISTS: u8 = 4;
 
+/// The refusal of a statement that is not carried out yet. It names nothing.
+pub const LATER: u8 = 10;
+
 /// Why a statement was refused.
 #[derive(Debug, Drop)]
 pub struct Refusal {
@@ -26,6 +29,7 @@ impl Refusal {
         match self.number {
             NO_TABLE => b"NoTable",
             EXISTS => b"Exists",
+            LATER => b"Later",
             _ => b"",
         }
     }
