@@ -1,7 +1,7 @@
 -- What `id` of one part comes to.
 use Rattle.std.proofs.Common.{◌≡◌, ℕ, List, [], Option, Some, None, Result, Ok, Err, sym, subst, ap}
 use Rattle.std.specs.Prelude.{IsErrAnd}
-use Rattle.ql_rel.specs.declared.refusal.TheConstants.{TYPE}
+use Rattle.ql_value.specs.declared.refusal.TheConstants.{TYPE}
 use Rattle.ql_rel.specs.Answers.{Answer, then_with, refused}
 use Rattle.ql_rel.specs.Checked as spec
 use Rattle.ql_rel.specs.Scopes.{Scope, id_place_of}

@@ -12,8 +12,7 @@ use crate::parts::{first_kind, meet_all, meet_each, trees};
 use crate::table::{Group, Typing, among, given_type, is_integer, meet, truth_of};
 use ql_edge::Boxed;
 use ql_parse::{Function, Typed};
-use ql_rel::{AGGREGATE, COUNT};
-use ql_value::Kind;
+use ql_value::{AGGREGATE, COUNT, Kind};
 use std::alloc::Global;
 
 /// A conversion by the table of operators.

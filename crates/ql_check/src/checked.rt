@@ -9,8 +9,7 @@ use crate::fault::refused;
 use crate::table::{Typing, is_integer, same_kind};
 use ql_edge::{Boxed, Items};
 use ql_parse::Typed;
-use ql_rel::{CONSTANT_RANGE, TYPE};
-use ql_value::{Kind, Value, convert, fit};
+use ql_value::{CONSTANT_RANGE, Kind, TYPE, Value, convert, fit};
 use std::alloc::Global;
 
 /// An integer literal, with or without one minus before it.

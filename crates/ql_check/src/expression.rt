@@ -18,8 +18,7 @@ use crate::scope::{Scope, column_of, id_of_all, id_of_set};
 use crate::table::Typing;
 use ql_edge::{Bytes, Name};
 use ql_parse::{Expr, Exprs, Function, Link, Links, Typed};
-use ql_rel::{COUNT, LATER, TYPE};
-use ql_value::{Kind, Value};
+use ql_value::{COUNT, Kind, LATER, TYPE, Value};
 use std::alloc::Global;
 
 /// The bytes of a name, if there is one.

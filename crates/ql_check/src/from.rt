@@ -10,8 +10,8 @@ use crate::scope::{Slot, Slots, is_called, refused_at};
 use crate::table::Typing;
 use ql_edge::{Bytes, Name, NoMemory};
 use ql_parse::{ColumnDef, ColumnDefs, FromSet, FromSets, SetSource};
-use ql_rel::{AMBIGUOUS, LATER, Schema, TableSchema, TableSchemas};
-use ql_value::{Kind, NO_TABLE};
+use ql_rel::{Schema, TableSchema, TableSchemas};
+use ql_value::{AMBIGUOUS, Kind, LATER, NO_TABLE};
 use std::alloc::Global;
 
 /// A list of these bytes.

@@ -11,8 +11,7 @@ use crate::fault::refused;
 use crate::table::{Typing, operator_type};
 use ql_edge::Boxed;
 use ql_parse::{Typed, TypedLink, TypedLinks};
-use ql_rel::LATER;
-use ql_value::BinOp;
+use ql_value::{BinOp, LATER};
 use std::alloc::Global;
 
 /// The front of a chain: what is known of the whole, but for its tree, which is that of the first part; and the links

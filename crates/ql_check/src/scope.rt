@@ -10,8 +10,7 @@ use crate::checked::{Checked, known};
 use crate::table::Typing;
 use ql_edge::{Bytes, Items, NoMemory};
 use ql_parse::Typed;
-use ql_rel::{AMBIGUOUS, NO_COLUMN};
-use ql_value::Refusal;
+use ql_value::{AMBIGUOUS, NO_COLUMN, Refusal};
 use std::alloc::Global;
 
 /// A place of a row: the name of its record set, that of its column, which an id has not, and the type of its values.

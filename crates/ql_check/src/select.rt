@@ -15,7 +15,8 @@ use crate::shown::{Shown, ShownList, any_aggregate, field_slots, fields_of};
 use crate::table::{Group, among};
 use ql_edge::{Names0, NoMemory, Numbers};
 use ql_parse::{Expr, Exprs, Join, OptTypeds, Select, Typed, TypedRows, Typeds};
-use ql_rel::{LATER, Plan, Schema};
+use ql_rel::{Plan, Schema};
+use ql_value::LATER;
 use std::alloc::Global;
 
 /// What stands before the fields of a SELECT.

@@ -15,7 +15,7 @@ use crate::scope::{Scope, Slot, Slots, qualified};
 use crate::table::Typing;
 use ql_edge::{Bytes, Items, Name, NoMemory};
 use ql_parse::{Expr, Field, Fields, Typed};
-use ql_rel::COUNT;
+use ql_value::COUNT;
 use std::alloc::Global;
 
 /// What a SELECT shows in one column. The name is empty where there is none.

@@ -5,7 +5,8 @@ use crate::CheckFault;
 use crate::fault::refused;
 use crate::select::select_plan;
 use ql_parse::Statement;
-use ql_rel::{LATER, Plan, Schema};
+use ql_rel::{Plan, Schema};
+use ql_value::LATER;
 use std::alloc::Global;
 
 /// The plan of a statement over the tables of a schema, or its first refusal. A SELECT is checked whole; every other

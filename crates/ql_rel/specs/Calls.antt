@@ -1,6 +1,6 @@
 -- Conversions and the calls of functions.
 use Rattle.std.specs.Prelude.{ℕ, ◌==◌, nat_lt, length, Bool, true, false, not, if◌then◌else◌, List, [], ◌∷◌, Option, Some, None, Ok}
-use Rattle.ql_rel.specs.declared.refusal.TheConstants.{COUNT, AGGREGATE}
+use Rattle.ql_value.specs.declared.refusal.TheConstants.{COUNT, AGGREGATE}
 use Rattle.ql_value.specs.declared.value.Kind.{Kind}
 use Rattle.ql_value.specs.declared.value.Kind.TheVariants as k
 use Rattle.ql_parse.specs.declared.syntax.Function.{Function}

@@ -4,7 +4,7 @@ use Rattle.ql_value.specs.Number.{has_number, wrapped}
 use Rattle.ql_value.specs.declared.value.Kind.{Kind}
 use Rattle.ql_value.specs.declared.value.Kind.TheVariants as k
 use Rattle.ql_value.specs.declared.value.Value.TheVariants as v
-use Rattle.ql_rel.specs.declared.refusal.TheConstants.{TYPE, CONSTANT_RANGE}
+use Rattle.ql_value.specs.declared.refusal.TheConstants.{TYPE, CONSTANT_RANGE}
 use Rattle.ql_parse.specs.declared.typed.Typed.{Typed}
 use Rattle.ql_parse.specs.declared.typed.Typed.TheVariants as t
 use Rattle.ql_parse.specs.Kinds.{is_integer, same_kind}

@@ -4,7 +4,7 @@ use Rattle.ql_value.specs.declared.operator.BinOp.{BinOp}
 use Rattle.ql_value.specs.declared.operator.BinOp.TheVariants as op
 use Rattle.ql_value.specs.declared.operator.UnOp.{UnOp}
 use Rattle.ql_value.specs.declared.operator.UnOp.TheVariants as un
-use Rattle.ql_rel.specs.declared.refusal.TheConstants.{LATER}
+use Rattle.ql_value.specs.declared.refusal.TheConstants.{LATER}
 use Rattle.ql_value.specs.declared.value.Kind.TheVariants as k
 use Rattle.ql_parse.specs.declared.typed.Typed.{Typed}
 use Rattle.ql_parse.specs.declared.typed.Typed.TheVariants as t

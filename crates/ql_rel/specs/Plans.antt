@@ -2,7 +2,7 @@
 use Rattle.std.specs.Prelude.{ℕ, suc, Bool, true, false, ◌||◌, if◌then◌else◌, nat_lt, List, [], ◌∷◌, ◌++◌, length, map, codes, Option, Some, None, Ok}
 use Rattle.std.specs.Str.{bytes_eq}
 use Rattle.ql_value.specs.declared.refusal.TheConstants.{NO_TABLE}
-use Rattle.ql_rel.specs.declared.refusal.TheConstants.{AMBIGUOUS, COUNT, LATER}
+use Rattle.ql_value.specs.declared.refusal.TheConstants.{AMBIGUOUS, COUNT, LATER}
 use Rattle.ql_value.specs.declared.value.Kind.{Kind}
 use Rattle.ql_value.specs.declared.value.Kind.TheVariants as k
 use Rattle.ql_parse.specs.declared.statement.ColumnDef.{ColumnDef}

@@ -1,7 +1,7 @@
 -- What names mean.
 use Rattle.std.specs.Prelude.{ℕ, suc, Bool, true, false, ◌&&◌, if◌then◌else◌, List, [], ◌∷◌, ◌++◌, Option, Some, None, Ok}
 use Rattle.std.specs.Str.{bytes_eq}
-use Rattle.ql_rel.specs.declared.refusal.TheConstants.{NO_COLUMN, AMBIGUOUS}
+use Rattle.ql_value.specs.declared.refusal.TheConstants.{NO_COLUMN, AMBIGUOUS}
 use Rattle.ql_parse.specs.Typing.{Typing}
 use Rattle.ql_rel.specs.Answers.{Answer, refused_at}
 

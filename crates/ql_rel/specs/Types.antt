@@ -1,7 +1,7 @@
 -- The type of an expression in a scope, and the resolved expression; or the first refusal. All refusals of a part come before those of the expression that holds it.
 use Rattle.std.specs.Prelude.{ℕ, Bool, true, false, if◌then◌else◌, List, [], ◌∷◌, map, Option, Some, None, Ok}
 use Rattle.ql_value.specs.declared.operator.BinOp.{BinOp}
-use Rattle.ql_rel.specs.declared.refusal.TheConstants.{TYPE, COUNT, LATER}
+use Rattle.ql_value.specs.declared.refusal.TheConstants.{TYPE, COUNT, LATER}
 use Rattle.ql_value.specs.declared.value.Kind.TheVariants as k
 use Rattle.ql_value.specs.declared.value.Value.TheVariants as v
 use Rattle.ql_parse.specs.declared.syntax.Expr.{Expr, out-Expr}
