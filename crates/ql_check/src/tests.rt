@@ -1,8 +1,8 @@
 use super::*;
 use ql_edge::{Boxed, NoMemory};
 use ql_parse::{Expr, Exprs, Field, Fields, FromSets, Link, Links, Select, Statement};
-use ql_rel::{Indexes, Schema, TYPE, TableSchemas};
-use ql_value::{BinOp, Kind};
+use ql_rel::{Indexes, Schema, TableSchemas};
+use ql_value::{BinOp, CONSTANT_RANGE, Kind, TYPE};
 use std::alloc::Global;
 use std::test::Fail;
 
@@ -69,6 +69,8 @@ fn outside_of_its_kind(rt: HostRuntime) -> Result<(), Fail> {
         part,
     };
     let plan = checked(rt.alloc(), expr);
-    assert!(rt; matches!(plan, Err(CheckFault::Refused(refusal)) if refusal.number == 7));
+    assert!(rt;
+        matches!(plan, Err(CheckFault::Refused(refusal)) if refusal.number == CONSTANT_RANGE)
+    );
     Ok(())
 }
