@@ -1,0 +1,4 @@
+pub mod Plain
+pub mod Gives
+pub mod Names
+pub mod Outputs
