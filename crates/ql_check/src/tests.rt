@@ -1,8 +1,8 @@
 use super::*;
 use ql_edge::{Boxed, NoMemory};
 use ql_parse::{Expr, Exprs, Field, Fields, FromSets, Link, Links, Select, Statement};
-use ql_rel::{Indexes, Schema, TableSchemas};
-use ql_value::{BinOp, CONSTANT_RANGE, Kind, TYPE};
+use ql_rel::{CONSTANT_RANGE, Indexes, Schema, TYPE, TableSchemas};
+use ql_value::{BinOp, Kind};
 use std::alloc::Global;
 use std::test::Fail;
 
