@@ -1,6 +1,6 @@
 use super::*;
 use ql_edge::{Boxed, NoMemory};
-use ql_parse::{Expr, Exprs, Field, Fields, FromSets, Link, Links, Select, Statement};
+use ql_parse::{Expr, Exprs, Field, Fields, FromSets, Link, Links, Select, Statement, Statements};
 use ql_rel::{CONSTANT_RANGE, Indexes, Schema, TYPE, TableSchemas};
 use ql_value::{BinOp, Kind};
 use std::alloc::Global;
@@ -35,42 +35,72 @@ fn select(alloc: Global, expr: Expr) -> Result<Statement, NoMemory> {
     }))
 }
 
-/// What a SELECT of one field without FROM comes to.
-fn checked(alloc: Global, expr: Expr) -> Result<Plan, CheckFault> {
-    let statement = select(alloc, expr)?;
-    let schema = Schema {
+/// A schema without tables.
+fn no_tables(alloc: Global) -> Schema {
+    Schema {
         tables: TableSchemas::new(alloc),
         indexes: Indexes::new(alloc),
-    };
-    check(alloc, &statement, &schema)
+    }
+}
+
+/// The number of a refusal, 0 for a plan, and 255 where memory ran out.
+fn number_of(answer: &Result<Plan, CheckFault>) -> u8 {
+    match answer {
+        Ok(_) => 0,
+        Err(CheckFault::Refused(refusal)) => refusal.number,
+        Err(CheckFault::NoMemory) => 255,
+    }
+}
+
+/// What a statement comes to over no tables.
+fn outcome(alloc: Global, statement: &Statement) -> u8 {
+    let schema = no_tables(alloc);
+    number_of(&check(alloc, statement, &schema))
+}
+
+/// `SELECT expr` as a script.
+fn script(alloc: Global, expr: Expr) -> Result<Statements, NoMemory> {
+    let mut statements = Statements::new(alloc);
+    statements.push(select(alloc, expr)?)?;
+    Ok(statements)
+}
+
+/// What `SELECT expr` comes to.
+fn outcome_of(alloc: Global, expr: Expr) -> Result<u8, NoMemory> {
+    let statements = script(alloc, expr)?;
+    match statements.as_slice().first() {
+        Some(statement) => Ok(outcome(alloc, statement)),
+        None => Ok(254),
+    }
+}
+
+/// What `SELECT 1 + part` comes to.
+fn outcome_of_sum(alloc: Global, part: Expr) -> Result<u8, NoMemory> {
+    outcome_of(alloc, one_plus(alloc, part)?)
+}
+
+/// What `SELECT uint8(number)` comes to.
+fn outcome_of_byte(alloc: Global, number: u64) -> Result<u8, NoMemory> {
+    let part = Boxed::new(alloc, Expr::Number(number))?;
+    outcome_of(
+        alloc,
+        Expr::Convert {
+            kind: Kind::Uint8,
+            part,
+        },
+    )
 }
 
 #[test]
-fn sum_of_numbers(rt: HostRuntime) -> Result<(), Fail> {
-    let expr = one_plus(rt.alloc(), Expr::Number(2))?;
-    let plan = checked(rt.alloc(), expr);
-    assert!(rt; matches!(plan, Ok(_)));
+fn sums(rt: HostRuntime) -> Result<(), Fail> {
+    assert_eq!(rt; outcome_of_sum(rt.alloc(), Expr::Number(2))?, 0);
+    assert_eq!(rt; outcome_of_sum(rt.alloc(), Expr::Truth(true))?, TYPE);
     Ok(())
 }
 
 #[test]
-fn number_and_truth(rt: HostRuntime) -> Result<(), Fail> {
-    let expr = one_plus(rt.alloc(), Expr::Truth(true))?;
-    let plan = checked(rt.alloc(), expr);
-    assert!(rt; matches!(plan, Err(CheckFault::Refused(refusal)) if refusal.number == TYPE));
-    Ok(())
-}
-
-#[test]
-fn outside_of_its_kind(rt: HostRuntime) -> Result<(), Fail> {
-    let part = Boxed::new(rt.alloc(), Expr::Number(300))?;
-    let expr = Expr::Convert {
-        kind: Kind::Uint8,
-        part,
-    };
-    let plan = checked(rt.alloc(), expr);
-    assert!(rt;
-        matches!(plan, Err(CheckFault::Refused(refusal)) if refusal.number == CONSTANT_RANGE)
-    );
+fn literals(rt: HostRuntime) -> Result<(), Fail> {
+    assert_eq!(rt; outcome_of_byte(rt.alloc(), 255)?, 0);
+    assert_eq!(rt; outcome_of_byte(rt.alloc(), 256)?, CONSTANT_RANGE);
     Ok(())
 }
