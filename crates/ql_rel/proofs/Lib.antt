@@ -5,3 +5,6 @@ pub mod TypedBy
 pub mod Fits
 pub mod Chains
 pub mod Parts
+pub mod Betweens
+pub mod Places
+pub mod Judged

@@ -40,7 +40,7 @@ prefixes_int64 (o ∷ ops) h =
     let inner = prefixes_int64 ops (prefix_typed o (prefixed_type ops (of_kind k.Int64)) h) in
     prefix_int64 o (prefix_type o (prefixed_type ops (of_kind k.Int64))) h (ap (prefix_type o) (sym inner))
 
-typed_truth : (u : Typing) → IsTyped u → truth_of u ≡ of_kind k.Bool
+pub typed_truth : (u : Typing) → IsTyped u → truth_of u ≡ of_kind k.Bool
 typed_truth only_null h = refl
 typed_truth (of_kind kind) h = refl
 typed_truth ill h = absurd h
@@ -87,11 +87,11 @@ module _ (rule : Rule) (row : List Typing) where
   types_are [] h = refl
   types_are (c ∷ parts) h = ap (λ u. u ∷ map (type_by rule row) (trees parts)) h.0.is ∙ ap (λ us. c.type ∷ us) (types_are parts h.1)
 
-  truth_fits : (negated : Bool) (tree : Typed) → type_by rule row tree ≡ of_kind k.Bool → Fits rule row (truth negated tree)
+  pub truth_fits : (negated : Bool) (tree : Typed) → type_by rule row tree ≡ of_kind k.Bool → Fits rule row (truth negated tree)
   truth_fits false tree e = known_fits rule row (of_kind k.Bool) tree tt e
   truth_fits true tree e = known_fits rule row (of_kind k.Bool) (t.Unary (un.Not ∷ []) tree) tt (by_unary rule row (un.Not ∷ []) tree ∙ ap (prefixed_type (un.Not ∷ [])) e)
 
-  is_truth_type : (u v : Typing) → ruled (truth_of u) ≡ Ok v → truth_of u ≡ of_kind k.Bool
+  pub is_truth_type : (u v : Typing) → ruled (truth_of u) ≡ Ok v → truth_of u ≡ of_kind k.Bool
   is_truth_type only_null v a = refl
   is_truth_type (of_kind kind) v a = refl
   is_truth_type ill v a = absurd (ruled_ok ill v a).0
