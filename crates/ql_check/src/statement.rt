@@ -1,3 +1,5 @@
+ghost use Rattle.std.specs.Prelude.{IfOk};
+ghost use Rattle.ql_rel.specs.PlanTypes.{PlanTyped, row_types};
 ghost use Rattle.ql_rel.specs.Plans.{plan};
 ghost use Rattle.ql_check.specs.Gives.{Gives, same};
 
@@ -10,8 +12,20 @@ use ql_value::LATER;
 use std::alloc::Global;
 
 /// The plan of a statement over the tables of a schema, or its first refusal. A SELECT is checked whole; every other
-/// statement is not built yet.
+/// statement is not built yet. The expressions of a plan have types at the rows of its record sets, as `eval` asks.
 pub fn check(alloc: Global, statement: &Statement, schema: &Schema) -> Result<Plan, CheckFault>
+    ensures plan { Gives same (plan schema.now statement.now) result }
+    ensures typed { IfOk result (PlanTyped (row_types schema.now statement.now)) }
+{
+    statement_plan(alloc, statement, schema)
+}
+
+/// The plan of a statement, or its first refusal.
+fn statement_plan(
+    alloc: Global,
+    statement: &Statement,
+    schema: &Schema,
+) -> Result<Plan, CheckFault>
     ensures { Gives same (plan schema.now statement.now) result }
 {
     match statement {

@@ -1,5 +1,5 @@
 -- BETWEEN and aggregates have the types that are said of them.
-use Rattle.std.proofs.Common.{◌≡◌, ℕ, Bool, true, false, not, if◌then◌else◌, inl, inr, List, [], ◌∷◌, length, Option, None, Some, Ok, refl, sym, ap, subst, ◌∙◌}
+use Rattle.std.proofs.Common.{◌≡◌, Bool, true, false, not, if◌then◌else◌, inl, inr, List, [], ◌∷◌, length, Option, None, Some, Ok, refl, sym, ap, subst, ◌∙◌}
 use Rattle.ql_value.specs.declared.operator.BinOp.{BinOp}
 use Rattle.ql_value.specs.declared.operator.BinOp.TheVariants as op
 use Rattle.ql_value.specs.declared.value.Kind.{Kind}
@@ -10,14 +10,14 @@ use Rattle.ql_parse.specs.declared.syntax.Function.TheVariants as f
 use Rattle.ql_parse.specs.declared.typed.Typed.{Typed}
 use Rattle.ql_parse.specs.declared.typed.Typed.TheVariants as t
 use Rattle.ql_parse.specs.Typing.{Typing, only_null, of_kind, ill, IsTyped, among, truth_of, meet, meet_all, operator_type, chain_type}
-use Rattle.ql_rel.specs.Answers.{Answer, then_with, refused}
-use Rattle.ql_rel.specs.Checked.{Checked, known, meet_type, kind_or_int64, ruled}
+use Rattle.ql_rel.specs.Answers.{then_with, refused}
+use Rattle.ql_rel.specs.Checked.{Checked, meet_type, kind_or_int64, ruled}
 use Rattle.ql_rel.specs.Operands.{first_kind, pair, between_tree, between, truth, link}
-use Rattle.ql_rel.specs.Calls.{takes, first_part, count_of, aggregate, aggregate_first, group_value, group_call, allowed_call}
+use Rattle.ql_rel.specs.Calls.{takes, first_part, count_of, aggregate, aggregate_first, group_value, group_call}
 use Rattle.ql_rel.proofs.TypedBy.{Rule, type_by, by_chain, by_link, by_count, by_aggregate}
 use Rattle.ql_rel.proofs.Fits.{Fits, then_ok, same_ok, ruled_ok, known_fits, meet_fits}
 use Rattle.ql_rel.proofs.Chains.{chosen}
-use Rattle.ql_rel.proofs.Parts.{Each, truth_fits, typed_truth, is_truth_type}
+use Rattle.ql_rel.proofs.Parts.{Each, truth_fits, typed_truth}
 
 abbrev ordered : Kind → Bool
 ordered kind = not (is_truth kind)
@@ -177,6 +177,6 @@ module _ (rule : Rule) (row : List Typing) (g : Groups rule) where
   pub group_fits : (function : Function) (parts : List Checked) (d : Checked) → Each rule row parts → group_call function parts ≡ Ok d → Fits rule row d
   group_fits function parts d h a =
       elim (chosen (takes function (length parts)) (group_value function (first_part parts)) (refused 6) d a) [
-        inl w ↦ value_of_fits function (first_part parts) d (first_fits parts h) w.1
+        | inl w ↦ value_of_fits function (first_part parts) d (first_fits parts h) w.1
         | inr w ↦ absurd (let e = w.1 in cc)
       ]

@@ -1,10 +1,9 @@
 -- Chains have the types that are said of them.
-use Rattle.std.proofs.Common.{◌≡◌, Bool, true, false, ◌&&◌, if◌then◌else◌, ◌⊎◌, inl, inr, List, [], ◌∷◌, ◌++◌, map, None, Ok, refl, sym, ap, subst, ◌∙◌}
+use Rattle.std.proofs.Common.{◌≡◌, Bool, true, false, ◌&&◌, if◌then◌else◌, ◌⊎◌, inl, inr, List, [], ◌∷◌, ◌++◌, map, Ok, refl, sym, ap, subst, ◌∙◌}
 use Rattle.std.proofs.lemmas.List.{map-append}
 use Rattle.ql_value.specs.declared.operator.BinOp.{BinOp}
 use Rattle.ql_value.specs.declared.operator.BinOp.TheVariants as op
 use Rattle.ql_value.specs.declared.value.Kind.TheVariants as k
-use Rattle.ql_parse.specs.declared.typed.Typed.{Typed}
 use Rattle.ql_parse.specs.declared.typed.TypedLink.{TypedLink}
 use Rattle.ql_parse.specs.Typing.{Typing, of_kind, IsTyped, operator_type, StepType, chain_type}
 use Rattle.ql_rel.specs.Answers.{Answer, then_with, refused}
@@ -73,7 +72,7 @@ module _ (rule : Rule) (types : List Typing) where
   behind_fits : (u : Typing) (f g : Front) → FitsFront rule types f → meet_behind u f ≡ Ok g → FitsFront rule types g
   behind_fits u f g h a =
       elim (chosen (f.first.untyped && is_number_type u) (then_with (take_kind (kind_or_int64 u) (whole f).literal (whole f).tree) (λ c. Ok (front_of c))) (Ok f) g a) [
-        inl w ↦
+        | inl w ↦
             let b = both_true f.first.untyped (is_number_type u) w.0 in
             let t = then_ok (take_kind (kind_or_int64 u) (whole f).literal (whole f).tree) (λ c. Ok (front_of c)) g w.1 in
             let both = whole_fits_of f.first f.links h in
@@ -92,11 +91,11 @@ module _ (rule : Rule) (types : List Typing) where
       (if f.first.untyped && part.untyped then by_table o (is_arithmetic o) f part else (if shares_kind o then sharing o f part else by_table o false f part)) ≡ Ok g → FitsFront rule types g
   not_like o f g part h p a =
       elim (chosen (f.first.untyped && part.untyped) (by_table o (is_arithmetic o) f part) (if shares_kind o then sharing o f part else by_table o false f part) g a) [
-        inl w ↦
+        | inl w ↦
             let b = both_true f.first.untyped part.untyped w.0 in
             table_fits o (is_arithmetic o) f g part h p (λ e. ap (λ t. operator_type o t part.type) (h.loose b.0) ∙ ap (operator_type o (of_kind k.Int64)) (p.loose b.1) ∙ int64_arithmetic o e) w.1
         | inr w ↦ elim (chosen (shares_kind o) (sharing o f part) (by_table o false f part) g w.1) [
-          inl x ↦ sharing_fits o f g part h p x.1
+          | inl x ↦ sharing_fits o f g part h p x.1
           | inr x ↦ table_fits o false f g part h p (λ e. absurd (cc)) x.1
         ]
       ]
@@ -104,7 +103,7 @@ module _ (rule : Rule) (types : List Typing) where
   linked_fits : (o : BinOp) (f g : Front) (part : Checked) → FitsFront rule types f → Fits rule types part → linked o f part ≡ Ok g → FitsFront rule types g
   linked_fits o f g part h p a =
       elim (chosen (is_like o) (refused 10) (if f.first.untyped && part.untyped then by_table o (is_arithmetic o) f part else (if shares_kind o then sharing o f part else by_table o false f part)) g a) [
-        inl w ↦ absurd (let e = w.1 in cc)
+        | inl w ↦ absurd (let e = w.1 in cc)
         | inr w ↦ not_like o f g part h p w.1
       ]
 

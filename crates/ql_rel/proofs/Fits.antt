@@ -1,9 +1,8 @@
 -- Literals, and what they meet, have the types that are said of them.
-use Rattle.std.proofs.Common.{◌≡◌, ℕ, ℤ, pos, Bool, true, false, ◌&&◌, if◌then◌else◌, List, [], Option, Some, None, Result, Ok, Err, refl, sym, ap, subst, ◌∙◌}
+use Rattle.std.proofs.Common.{◌≡◌, ℤ, Bool, true, false, ◌&&◌, if◌then◌else◌, List, Option, Some, None, Ok, Err, refl, ap, subst, ◌∙◌}
 use Rattle.std.specs.Prelude.{int_le}
 use Rattle.std.proofs.Math.Dec.{T}
 use Rattle.ql_value.specs.Number.{has_number, wrapped, IsInteger, least, greatest}
-use Rattle.ql_value.specs.declared.refusal.Refusal.{Refusal}
 use Rattle.ql_value.specs.declared.refusal.TheConstants.{CONSTANT_RANGE}
 use Rattle.ql_value.specs.declared.value.Kind.{Kind}
 use Rattle.ql_value.specs.declared.value.Kind.TheVariants as k
@@ -12,7 +11,7 @@ use Rattle.ql_value.proofs.KindLaws.{the_kind_laws}
 use Rattle.ql_parse.specs.declared.typed.Typed.{Typed}
 use Rattle.ql_parse.specs.declared.typed.Typed.TheVariants as t
 use Rattle.ql_parse.specs.Kinds.{is_integer, same_kind}
-use Rattle.ql_parse.specs.Typing.{Typing, only_null, of_kind, ill, IsTyped, among, given_type, constant_type}
+use Rattle.ql_parse.specs.Typing.{Typing, only_null, of_kind, ill, IsTyped, among, given_type}
 use Rattle.ql_rel.specs.Answers.{Answer, then_with, refused}
 use Rattle.ql_rel.specs.Checked.{Literal, Checked, known, number_of, literal_kind, literal_of, literal_in, narrowed, take_kind, meet_type, is_number_type, kind_or_int64, ruled, bracketed}
 use Rattle.ql_rel.proofs.TypedBy.{Rule, type_by, by_constant, by_narrow}

@@ -1,6 +1,5 @@
 -- What is said of an expression is so: its type is that of the resolved expression.
-use Rattle.std.proofs.Common.{◌≡◌, ℕ, Bool, true, false, if◌then◌else◌, inl, inr, List, [], ◌∷◌, map, Option, None, Some, Ok, refl, sym, ap, subst, ◌∙◌}
-use Rattle.ql_value.specs.declared.value.Kind.{Kind}
+use Rattle.std.proofs.Common.{◌≡◌, ℕ, Bool, true, false, if◌then◌else◌, inl, inr, List, [], ◌∷◌, map, Option, None, Some, Ok, refl, sym, subst}
 use Rattle.ql_value.specs.declared.value.Kind.TheVariants as k
 use Rattle.ql_value.specs.declared.value.Value.TheVariants as v
 use Rattle.ql_parse.specs.declared.syntax.Expr.{Expr, map-Expr, roll-Expr}
@@ -15,15 +14,15 @@ use Rattle.ql_parse.specs.declared.syntax.Select.{Select}
 use Rattle.ql_parse.specs.declared.syntax.SetSource.{SetSource}
 use Rattle.ql_parse.specs.declared.typed.Typed.TheVariants as t
 use Rattle.ql_parse.specs.Typing.{Typing, only_null, of_kind}
-use Rattle.ql_rel.specs.Answers.{Answer, then_with, all_of, refused}
+use Rattle.ql_rel.specs.Answers.{Answer, then_with, refused}
 use Rattle.ql_rel.specs.Checked.{Checked, known, literal_of, bracketed}
-use Rattle.ql_rel.specs.Operands.{Front, Step, front_of, whole, chained, prefixed, in_list, between, null_test}
-use Rattle.ql_rel.specs.Calls.{convert_to, row_call, is_aggregate, allowed_call, group_call}
+use Rattle.ql_rel.specs.Operands.{front_of, whole, chained, prefixed, in_list, between, null_test}
+use Rattle.ql_rel.specs.Calls.{convert_to, row_call, is_aggregate, allowed_call}
 use Rattle.ql_rel.specs.Scopes.{Scope}
-use Rattle.ql_rel.specs.Types.{Ref, Judged, JudgedLink, judged, expr_step, link_step, judge, judge_link, steps, step_of, answers, at_place, bare_name, id_of_part, id_call, is_id, call, text_of}
-use Rattle.ql_rel.proofs.TypedBy.{Rule, type_by, by_constant}
+use Rattle.ql_rel.specs.Types.{Judged, JudgedLink, judged, expr_step, link_step, judge, judge_link, steps, answers, bare_name, id_of_part, id_call, is_id, call, text_of}
+use Rattle.ql_rel.proofs.TypedBy.{Rule, by_constant}
 use Rattle.ql_rel.proofs.Fits.{Fits, then_ok, same_ok, known_fits, literal_fits, brackets_fit}
-use Rattle.ql_rel.proofs.Chains.{chosen, FitsFront, EachStep, front_fits, whole_fits, chained_fits}
+use Rattle.ql_rel.proofs.Chains.{chosen, EachStep, front_fits, whole_fits, chained_fits}
 use Rattle.ql_rel.proofs.Parts.{Each, prefixed_fits, in_fits, null_fits, convert_fits, call_fits}
 use Rattle.ql_rel.proofs.Betweens.{between_fits, Groups, group_fits}
 use Rattle.ql_rel.proofs.Places.{Stands, column_fits, id_fits, id_of_fits}
@@ -78,9 +77,9 @@ module _ (rule : Rule) (row : List Typing) (scope : Scope) (stands : Stands row 
   call_is_so : (function : Function) (js : List Judged) → AreSo js → IsSo (judged (λ a. call scope a function js))
   call_is_so function js h a w c e =
       elim (chosen (is_id function) (id_call scope a js) (if is_aggregate function then then_with (answers false js) (allowed_call a function) else then_with (answers a js) (row_call function)) c e) [
-        inl x ↦ id_is_so a js c x.1
+        | inl x ↦ id_is_so a js c x.1
         | inr x ↦ elim (chosen (is_aggregate function) (then_with (answers false js) (allowed_call a function)) (then_with (answers a js) (row_call function)) c x.1) [
-          inl y ↦
+          | inl y ↦
               let s = then_ok (answers false js) (allowed_call a function) c y.1 in
               allowed_fits a w function s.0 c (each_answer false no_groups js s.0 h s.1) s.2
           | inr y ↦

@@ -8,3 +8,6 @@ pub mod Parts
 pub mod Betweens
 pub mod Places
 pub mod Judged
+pub mod NoAggregates
+pub mod PlanFits
+pub mod SelectFits

@@ -1,22 +1,20 @@
 -- Operators before a part, lists of parts, calls and conversions have the types that are said of them.
-use Rattle.std.proofs.Common.{◌≡◌, ℕ, Bool, true, false, ◌&&◌, not, if◌then◌else◌, inl, inr, List, [], ◌∷◌, map, length, Option, None, Some, Ok, refl, sym, ap, subst, ◌∙◌}
-use Rattle.std.specs.Prelude.{◌==◌}
-use Rattle.ql_value.specs.declared.operator.BinOp.TheVariants as op
+use Rattle.std.proofs.Common.{◌≡◌, Bool, true, false, ◌&&◌, not, inl, inr, List, [], ◌∷◌, map, length, Option, None, Some, Ok, refl, sym, ap, subst, ◌∙◌}
 use Rattle.ql_value.specs.declared.operator.UnOp.{UnOp}
 use Rattle.ql_value.specs.declared.operator.UnOp.TheVariants as un
 use Rattle.ql_value.specs.declared.value.Kind.{Kind}
 use Rattle.ql_value.specs.declared.value.Kind.TheVariants as k
-use Rattle.ql_parse.specs.Kinds.{is_integer, is_truth}
+use Rattle.ql_parse.specs.Kinds.{is_integer}
 use Rattle.ql_parse.specs.declared.syntax.Function.{Function}
 use Rattle.ql_parse.specs.declared.syntax.Function.TheVariants as f
 use Rattle.ql_parse.specs.declared.typed.Typed.{Typed}
 use Rattle.ql_parse.specs.declared.typed.Typed.TheVariants as t
-use Rattle.ql_parse.specs.Typing.{Typing, only_null, of_kind, ill, IsTyped, among, given_type, truth_of, meet, meet_all, operator_type, prefix_type, prefixed_type, converts, call_type}
-use Rattle.ql_rel.specs.Answers.{Answer, then_with, all_of, refused}
-use Rattle.ql_rel.specs.Checked.{Literal, Checked, known, literal_of, literal_in, meet_type, ruled}
-use Rattle.ql_rel.specs.Operands.{under, signed, prefixed, prefixed_by, ends_with_minus, but_last, first_kind, meet_each, types, trees, truth, in_list, pair, between_tree, between, null_test, link}
-use Rattle.ql_rel.specs.Calls.{convert_by_table, convert_literal, convert_to, call_by_table, coalesce_of, row_value, row_call, takes}
-use Rattle.ql_rel.proofs.TypedBy.{Rule, type_by, link_by, by_unary, by_convert, by_call, by_in, by_is_null, by_chain, by_link}
+use Rattle.ql_parse.specs.Typing.{Typing, only_null, of_kind, ill, IsTyped, among, given_type, truth_of, meet_all, prefix_type, prefixed_type, converts, call_type}
+use Rattle.ql_rel.specs.Answers.{then_with, refused}
+use Rattle.ql_rel.specs.Checked.{Literal, Checked, known, literal_of, meet_type, ruled}
+use Rattle.ql_rel.specs.Operands.{under, signed, prefixed, prefixed_by, ends_with_minus, but_last, first_kind, meet_each, types, trees, truth, in_list, null_test}
+use Rattle.ql_rel.specs.Calls.{convert_by_table, convert_literal, convert_to, call_by_table, row_value, row_call, takes}
+use Rattle.ql_rel.proofs.TypedBy.{Rule, type_by, by_unary, by_convert, by_call, by_in, by_is_null}
 use Rattle.ql_rel.proofs.Fits.{Fits, then_ok, same_ok, ruled_ok, known_fits, literal_fits, literal_in_fits, meet_fits}
 use Rattle.ql_rel.proofs.Chains.{chosen}
 
@@ -64,7 +62,7 @@ module _ (rule : Rule) (row : List Typing) where
   by_literal ops None c d h a = under_fits ops c d h a
   by_literal ops (Some l) c d h a =
       elim (chosen (ends_with_minus ops && not l.minus) (under (but_last ops) (literal_of (record { minus = true; size = l.size }))) (under ops c) d a) [
-        inl w ↦ under_fits (but_last ops) (literal_of (record { minus = true; size = l.size })) d (literal_fits rule row (record { minus = true; size = l.size })) w.1
+        | inl w ↦ under_fits (but_last ops) (literal_of (record { minus = true; size = l.size })) d (literal_fits rule row (record { minus = true; size = l.size })) w.1
         | inr w ↦ under_fits ops c d h w.1
       ]
 
@@ -124,7 +122,7 @@ module _ (rule : Rule) (row : List Typing) where
   pub convert_fits : (kind : Kind) (c d : Checked) → Fits rule row c → convert_to kind c ≡ Ok d → Fits rule row d
   convert_fits kind c d h a =
       elim (chosen (is_integer kind) (convert_literal kind c.literal c) (convert_by_table kind c) d a) [
-        inl w ↦ literal_converts kind c.literal c d w.0 h w.1
+        | inl w ↦ literal_converts kind c.literal c d w.0 h w.1
         | inr w ↦ by_table_fits kind c d h w.1
       ]
 
@@ -153,6 +151,6 @@ module _ (rule : Rule) (row : List Typing) where
   pub call_fits : (function : Function) (parts : List Checked) (d : Checked) → Each parts → row_call function parts ≡ Ok d → Fits rule row d
   call_fits function parts d h a =
       elim (chosen (takes function (length parts)) (row_value function parts) (refused 6) d a) [
-        inl w ↦ value_fits function parts d h w.1
+        | inl w ↦ value_fits function parts d h w.1
         | inr w ↦ absurd (let e = w.1 in cc)
       ]

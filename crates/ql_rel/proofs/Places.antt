@@ -1,12 +1,12 @@
 -- A name that means a place has the type of the place.
-use Rattle.std.proofs.Common.{◌≡◌, ℕ, zero, suc, ◌+◌, Bool, true, false, ◌&&◌, if◌then◌else◌, List, [], ◌∷◌, ◌++◌, map, length, Option, None, Some, Ok, refl, sym, ap, subst, ◌∙◌, add-suc, add-zero}
+use Rattle.std.proofs.Common.{◌≡◌, ℕ, suc, Bool, true, false, ◌&&◌, if◌then◌else◌, List, [], ◌∷◌, Option, None, Some, Ok, subst, ◌∙◌}
 use Rattle.ql_parse.specs.declared.typed.Typed.TheVariants as t
 use Rattle.ql_parse.specs.Typing.{Typing, IsTyped, place_type}
-use Rattle.ql_rel.specs.Answers.{Answer, then_with}
+use Rattle.ql_rel.specs.Answers.{Answer}
 use Rattle.ql_rel.specs.Checked.{Checked, known}
 use Rattle.ql_rel.specs.Scopes.{Slot, Scope, Found, found, the_one, first_some, written, is_of_set, is_of_column, column_place, id_place, id_place_of}
 use Rattle.ql_rel.specs.Types.{at_place}
-use Rattle.ql_rel.proofs.TypedBy.{Rule, type_by, by_place}
+use Rattle.ql_rel.proofs.TypedBy.{Rule, by_place}
 use Rattle.ql_rel.proofs.Fits.{Fits, then_ok, same_ok, known_fits}
 
 -- the slots stand in the row from a place on

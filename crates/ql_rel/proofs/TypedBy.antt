@@ -1,5 +1,5 @@
 -- The types of resolved expressions, where an aggregate has the type that some rule gives it.
-use Rattle.std.proofs.Common.{◌≡◌, ℕ, Bool, List, Option, Some, None, map, sym, ap, ◌∙◌}
+use Rattle.std.proofs.Common.{◌≡◌, ℕ, List, Option, Some, None, map, sym, ap, ◌∙◌}
 use Rattle.ql_value.specs.declared.operator.BinOp.{BinOp}
 use Rattle.ql_value.specs.declared.operator.UnOp.{UnOp}
 use Rattle.ql_value.specs.declared.value.Kind.{Kind}
@@ -10,7 +10,7 @@ use Rattle.ql_parse.specs.declared.typed.Typed.TheVariants as t
 use Rattle.ql_parse.specs.declared.typed.Typed.TheOpen.{Typed-F}
 use Rattle.ql_parse.specs.declared.typed.Typed.TheFolds.{fold-Typed, fold-TypedLink, fold-roll-Typed, fold-roll-TypedLink}
 use Rattle.ql_parse.specs.declared.typed.TypedLink.{TypedLink}
-use Rattle.ql_parse.specs.Typing.{Typing, of_kind, ill, among, given_type, truth_of, meet_all, StepType, chain_type, prefixed_type, converts, call_type, constant_type, place_type, type_step, link_type}
+use Rattle.ql_parse.specs.Typing.{Typing, of_kind, among, given_type, truth_of, meet_all, StepType, chain_type, prefixed_type, converts, call_type, constant_type, place_type, type_step, link_type}
 use Rattle.ql_parse.specs.Kinds.{is_integer}
 use Rattle.ql_rel.specs.Operands.{link}
 

@@ -6,3 +6,4 @@ pub mod Calls
 pub mod Types
 pub mod Aggregates
 pub mod Plans
+pub mod PlanTypes
