@@ -21,7 +21,10 @@ pub use length::{key_length, row_length};
 pub use operator::{BinOp, UnOp, UnOps};
 pub use order::compare;
 pub use print::{print_number, print_text, print_value};
-pub use refusal::{EXISTS, LATER, NO_TABLE, Refusal};
+pub use refusal::{
+    AGGREGATE, AMBIGUOUS, CONSTANT_RANGE, COUNT, DIVIDE, EXISTS, LATER, NEGATIVE_COUNT, NO_COLUMN,
+    NO_TABLE, RANGE, Refusal, TYPE,
+};
 pub use value::{Kind, Value, Values, copy_value};
 
 #[cfg(test)]

@@ -6,11 +6,38 @@ use ql_edge::Bytes;
 /// The refusal of a statement that names a table that is not there.
 pub const NO_TABLE: u8 = 1;
 
+/// The refusal of a column that no record set has, and of a record set that is not there.
+pub const NO_COLUMN: u8 = 2;
+
+/// The refusal of a name that has several meanings.
+pub const AMBIGUOUS: u8 = 3;
+
 /// The refusal of a statement that makes a table that is there.
 pub const EXISTS: u8 = 4;
 
+/// The refusal of operands that an operator does not take. It names nothing.
+pub const TYPE: u8 = 5;
+
+/// The refusal of another number of parts than is wanted. It names nothing.
+pub const COUNT: u8 = 6;
+
+/// The refusal of a literal outside the kind that it meets. It names nothing.
+pub const CONSTANT_RANGE: u8 = 7;
+
+/// The refusal of an aggregate where none may stand. It names nothing.
+pub const AGGREGATE: u8 = 8;
+
 /// The refusal of a statement that is not carried out yet. It names nothing.
 pub const LATER: u8 = 10;
+
+/// The refusal of a divisor that is 0. It names nothing.
+pub const DIVIDE: u8 = 20;
+
+/// The refusal of a number outside the kind that it meets as a value. It names nothing.
+pub const RANGE: u8 = 21;
+
+/// The refusal of a shift count that is negative. It names nothing.
+pub const NEGATIVE_COUNT: u8 = 22;
 
 /// Why a statement was refused.
 #[derive(Debug, Drop)]
@@ -28,8 +55,17 @@ impl Refusal {
     {
         match self.number {
             NO_TABLE => b"NoTable",
+            NO_COLUMN => b"NoColumn",
+            AMBIGUOUS => b"Ambiguous",
             EXISTS => b"Exists",
+            TYPE => b"Type",
+            COUNT => b"Count",
+            CONSTANT_RANGE => b"ConstantRange",
+            AGGREGATE => b"Aggregate",
             LATER => b"Later",
+            DIVIDE => b"Divide",
+            RANGE => b"Range",
+            NEGATIVE_COUNT => b"NegativeCount",
             _ => b"",
         }
     }

@@ -1,0 +1,7 @@
+pub mod Fronts
+pub mod Prefixes
+pub mod Turns
+pub mod Stops
+pub mod Ids
+pub mod Places
+pub mod Promises

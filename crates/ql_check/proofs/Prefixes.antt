@@ -1,0 +1,28 @@
+-- Operators before a part, taken from the last one on.
+use Rattle.std.proofs.Common.{◌≡◌, ◌<◌, ◌≤◌, List, [], ◌∷◌, ◌++◌, length, refl, ap, Ok, arith}
+use Rattle.ql_value.specs.declared.operator.UnOp.{UnOp}
+use Rattle.ql_parse.specs.Typing.{Typing, prefix_type, prefixed_type}
+use Rattle.ql_rel.specs.Checked.{Checked}
+use Rattle.ql_rel.specs.Operands.{ends_with_minus, but_last, under, signed}
+
+pub under_none : (ops : List UnOp) (c : Checked) → length ops ≤ 0 → under ops c ≡ Ok c
+under_none [] c h = refl
+under_none (o ∷ ops) c h = absurd (omega (arith, h))
+
+pub under_some : (ops : List UnOp) (c : Checked) → 0 < length ops → under ops c ≡ signed ops c
+under_some [] c h = absurd (omega (arith, h))
+under_some (o ∷ ops) c h = refl
+
+pub last_prefix : (front : List UnOp) (o : UnOp) (t : Typing) → prefixed_type (front ++ o ∷ []) t ≡ prefixed_type front (prefix_type o t)
+last_prefix [] o t = refl
+last_prefix (p ∷ front) o t = ap (prefix_type p) (last_prefix front o t)
+
+pub minus_last : (front : List UnOp) (o : UnOp) → ends_with_minus (front ++ o ∷ []) ≡ ends_with_minus (o ∷ [])
+minus_last [] o = refl
+minus_last (p ∷ []) o = refl
+minus_last (p ∷ q ∷ front) o = minus_last (q ∷ front) o
+
+pub front_last : (front : List UnOp) (o : UnOp) → but_last (front ++ o ∷ []) ≡ front
+front_last [] o = refl
+front_last (p ∷ []) o = refl
+front_last (p ∷ q ∷ front) o = ap (λ ops. p ∷ ops) (front_last (q ∷ front) o)

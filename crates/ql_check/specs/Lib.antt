@@ -1,0 +1,5 @@
+pub mod Plain
+pub mod Gives
+pub mod Names
+pub mod Outputs
+pub mod Forms

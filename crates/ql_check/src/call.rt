@@ -1,0 +1,232 @@
+ghost use Rattle.std.specs.Prelude.{◌≡◌, Ok, map, option_map};
+ghost use Rattle.ql_parse.specs.Typing as types;
+ghost use Rattle.ql_rel.specs.Calls as spec;
+ghost use Rattle.ql_rel.specs.Operands.{types as types_of};
+ghost use Rattle.ql_check.specs.Gives.{Gives};
+ghost use Rattle.ql_check.specs.Plain.{plain, test_of, typing_of};
+
+use crate::CheckFault;
+use crate::checked::{Checked, CheckedList, kind_or_int64, known, literal_in, ruled};
+use crate::fault::refused;
+use crate::parts::{first_kind, meet_all, meet_each, trees};
+use crate::table::{Group, Typing, among, given_type, is_integer, meet, truth_of};
+use ql_edge::Boxed;
+use ql_parse::{Function, Typed};
+use ql_value::{AGGREGATE, COUNT, Kind};
+use std::alloc::Global;
+
+/// A conversion by the table of operators.
+fn convert_by_table(alloc: Global, kind: Kind, part: Checked) -> Result<Checked, CheckFault>
+    ensures { Gives plain (spec.convert_by_table kind (plain part)) result }
+{
+    let from = among(Group::Into(kind), part.typing);
+    let typing = ruled(alloc, given_type(from, Typing::OfKind(kind)))?;
+    let part = Boxed::new(alloc, part.tree)?;
+    Ok(known(typing, Typed::Convert { kind, part }))
+}
+
+/// A conversion. A literal has to be within an integer kind.
+#[inline(never)]
+pub(crate) fn convert_to(alloc: Global, kind: Kind, part: Checked) -> Result<Checked, CheckFault>
+    ensures { Gives plain (spec.convert_to kind (plain part)) result }
+{
+    if !is_integer(kind) {
+        return convert_by_table(alloc, kind, part);
+    }
+    match part.literal {
+        Some(literal) => literal_in(alloc, kind, literal),
+        None => convert_by_table(alloc, kind, part),
+    }
+}
+
+/// The type of the one part of `len`.
+fn length_type(parts: &[Checked]) -> Typing
+    ensures { typing_of result ≡ types.call_type Function.Len (types_of (map plain parts.now)) }
+{
+    if parts.len() != 1 {
+        return Typing::Ill;
+    }
+    given_type(
+        among(Group::ByteLists, parts[0].typing),
+        Typing::OfKind(Kind::Int64),
+    )
+}
+
+/// The type of a question to two strings.
+fn question_type(parts: &[Checked]) -> Typing
+    ensures { typing_of result ≡ types.call_type Function.Contains (types_of (map plain parts.now)) }
+{
+    if parts.len() != 2 {
+        return Typing::Ill;
+    }
+    truth_of(among(Group::Strings, meet(parts[0].typing, parts[1].typing)))
+}
+
+/// The one type of the parts of coalesce.
+fn coalesce_type(parts: &[Checked]) -> Typing
+    ensures { typing_of result ≡ types.call_type Function.Coalesce (types_of (map plain parts.now)) }
+{
+    match parts.split_first() {
+        Some((first, rest)) => meet_all(first.typing, rest),
+        None => Typing::Ill,
+    }
+}
+
+/// What a call gives.
+fn call_type(function: Function, parts: &[Checked]) -> Typing
+    ensures { typing_of result ≡ types.call_type function (types_of (map plain parts.now)) }
+{
+    match function {
+        Function::Len => length_type(parts),
+        Function::Contains | Function::HasPrefix | Function::HasSuffix => question_type(parts),
+        Function::Coalesce => coalesce_type(parts),
+        _ => Typing::Ill,
+    }
+}
+
+/// A call by the table of operators.
+fn call_by_table(
+    alloc: Global,
+    function: Function,
+    parts: CheckedList,
+) -> Result<Checked, CheckFault>
+    ensures { Gives plain (spec.call_by_table function (map plain parts)) result }
+{
+    let typing = ruled(alloc, call_type(function, parts.as_slice()))?;
+    let parts = trees(alloc, parts)?;
+    Ok(known(typing, Typed::Call { function, parts }))
+}
+
+/// coalesce
+fn coalesce_of(alloc: Global, parts: CheckedList) -> Result<Checked, CheckFault>
+    ensures { Gives plain (spec.coalesce_of (map plain parts)) result }
+{
+    let typing = first_kind(parts.as_slice());
+    let parts = meet_each(alloc, typing, parts)?;
+    call_by_table(alloc, Function::Coalesce, parts)
+}
+
+/// Whether a function takes so many parts.
+fn takes(function: Function, count: usize) -> bool
+    ensures { result ≡ spec.takes function count }
+{
+    match function {
+        Function::Contains | Function::HasPrefix | Function::HasSuffix => count == 2,
+        Function::Coalesce => 0 < count,
+        Function::Count => count < 2,
+        _ => count == 1,
+    }
+}
+
+/// The call of a function of a row other than id.
+#[inline(never)]
+pub(crate) fn row_call(
+    alloc: Global,
+    function: Function,
+    parts: CheckedList,
+) -> Result<Checked, CheckFault>
+    ensures { Gives plain (spec.row_call function (map plain parts)) result }
+{
+    if !takes(function, parts.len()) {
+        return Err(refused(alloc, COUNT));
+    }
+    match function {
+        Function::Coalesce => coalesce_of(alloc, parts),
+        _ => call_by_table(alloc, function, parts),
+    }
+}
+
+/// Whether a function gives a value of the rows of a group.
+pub fn is_aggregate(function: Function) -> bool
+    ensures { result ≡ spec.is_aggregate function }
+{
+    match function {
+        Function::Count | Function::Sum | Function::Avg | Function::Min | Function::Max => true,
+        _ => false,
+    }
+}
+
+/// The first part.
+fn first(parts: CheckedList) -> Option<Checked>
+    ensures { option_map plain result ≡ spec.first_part (map plain parts) }
+{
+    parts.into_vec().into_iter().next()
+}
+
+/// `count` of a part, or of rows.
+fn count_of(alloc: Global, part: Option<Checked>) -> Result<Checked, CheckFault>
+    ensures { Gives plain (Ok (spec.count_of (option_map plain part))) result }
+{
+    let mut tree = None;
+    if let Some(part) = part {
+        tree = Some(Boxed::new(alloc, part.tree)?);
+    }
+    Ok(known(
+        Typing::OfKind(Kind::Int64),
+        Typed::Aggregate {
+            function: Function::Count,
+            kind: Kind::Int64,
+            part: tree,
+        },
+    ))
+}
+
+/// An aggregate of values of the kinds of a group.
+fn aggregate_of(
+    alloc: Global,
+    function: Function,
+    group: Group,
+    part: Option<Checked>,
+) -> Result<Checked, CheckFault>
+    ensures { Gives plain (spec.aggregate_first function (test_of group) (option_map plain part)) result }
+{
+    let Some(part) = part else {
+        return Err(refused(alloc, COUNT));
+    };
+    let typing = ruled(alloc, among(group, part.typing))?;
+    let kind = kind_or_int64(typing);
+    let tree = Boxed::new(alloc, part.tree)?;
+    Ok(known(
+        Typing::OfKind(kind),
+        Typed::Aggregate {
+            function,
+            kind,
+            part: Some(tree),
+        },
+    ))
+}
+
+/// An aggregate with the right number of parts.
+fn group_value(
+    alloc: Global,
+    function: Function,
+    part: Option<Checked>,
+) -> Result<Checked, CheckFault>
+    ensures { Gives plain (spec.group_value function (option_map plain part)) result }
+{
+    match function {
+        Function::Count => count_of(alloc, part),
+        Function::Sum | Function::Avg => aggregate_of(alloc, function, Group::Integers, part),
+        Function::Min | Function::Max => aggregate_of(alloc, function, Group::Ordered, part),
+        _ => Err(refused(alloc, COUNT)),
+    }
+}
+
+/// An aggregate, where one may stand.
+#[inline(never)]
+pub(crate) fn group_call(
+    alloc: Global,
+    allowed: bool,
+    function: Function,
+    parts: CheckedList,
+) -> Result<Checked, CheckFault>
+    ensures { Gives plain (spec.allowed_call allowed function (map plain parts)) result }
+{
+    if !allowed {
+        return Err(refused(alloc, AGGREGATE));
+    }
+    if !takes(function, parts.len()) {
+        return Err(refused(alloc, COUNT));
+    }
+    group_value(alloc, function, first(parts))
+}

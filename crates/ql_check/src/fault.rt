@@ -1,0 +1,33 @@
+ghost use Rattle.std.specs.Prelude.{◌≡◌, []};
+ghost use Rattle.ql_check.specs.declared.fault.CheckFault.TheVariants as variant;
+
+use ql_edge::{Bytes, NoMemory};
+use ql_value::Refusal;
+use std::alloc::Global;
+
+/// Why a statement has no plan.
+#[derive(Debug, Drop)]
+pub enum CheckFault {
+    /// The first refusal of the statement.
+    Refused(Refusal),
+    /// A growth was refused.
+    NoMemory,
+}
+
+impl From<NoMemory> for CheckFault {
+    ghost from_gives = { λ _ fault. fault ≡ variant.NoMemory };
+
+    fn from(_: NoMemory) -> CheckFault {
+        CheckFault::NoMemory
+    }
+}
+
+/// A refusal that shows no name.
+pub(crate) fn refused(alloc: Global, number: u8) -> CheckFault
+    ensures { result ≡ CheckFault.Refused (record { number = number; name = [] }) }
+{
+    CheckFault::Refused(Refusal {
+        number,
+        name: Bytes::new(alloc),
+    })
+}

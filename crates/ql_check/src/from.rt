@@ -1,0 +1,154 @@
+ghost use Rattle.std.specs.Prelude.{◌≡◌, [], ◌∷◌, ◌++◌, Some, map, IfOk};
+ghost use Rattle.ql_parse.specs.Typing.{of_kind};
+ghost use Rattle.ql_rel.specs.Plans as spec;
+ghost use Rattle.ql_check.specs.Gives.{Gives};
+ghost use Rattle.ql_check.specs.Names.{plain_slot, table_of};
+
+use crate::CheckFault;
+use crate::fault::refused;
+use crate::scope::{Slot, Slots, is_called, refused_at};
+use crate::table::Typing;
+use ql_edge::{Bytes, Name, NoMemory};
+use ql_parse::{ColumnDef, ColumnDefs, FromSet, FromSets, SetSource};
+use ql_rel::{Schema, TableSchema, TableSchemas};
+use ql_value::{AMBIGUOUS, Kind, LATER, NO_TABLE};
+use std::alloc::Global;
+
+/// A list of these bytes.
+pub(crate) fn copy_bytes(alloc: Global, bytes: &[u8]) -> Result<Bytes, NoMemory>
+    ensures { IfOk result (λ copy. copy ≡ bytes.now) }
+{
+    let mut copy = Bytes::new(alloc);
+    copy.extend(bytes)?;
+    Ok(copy)
+}
+
+/// The table with a name.
+fn table_named<'a>(name: &[u8], tables: &'a TableSchemas) -> Option<&'a TableSchema>
+    ensures { table_of result ≡ spec.table_named name.now tables.now }
+{
+    'tables: for table in tables.as_slice() {
+        if table.name.as_slice() == name {
+            return Some(table);
+        }
+    }
+    None
+}
+
+/// Whether the set describes the database itself.
+fn is_metadata(name: &[u8]) -> bool
+    ensures { result ≡ spec.is_metadata name.now }
+{
+    name == b"__Table".as_slice() || name == b"__Column".as_slice() || name == b"__Index".as_slice()
+}
+
+/// Whether some record set has the name.
+fn is_taken(name: &[u8], slots: &[Slot]) -> bool
+    ensures { result ≡ spec.is_taken name.now (map plain_slot slots.now) }
+{
+    'slots: for slot in slots {
+        if is_called(&slot.set, name) {
+            return true;
+        }
+    }
+    false
+}
+
+/// A place for a column of a record set.
+fn column_slot(alloc: Global, set: &[u8], column: &ColumnDef) -> Result<Slot, NoMemory>
+    ensures { IfOk result (λ slot. plain_slot slot ≡ record { set = Some set.now; column = Some column.now.name; type = of_kind column.now.kind }) }
+{
+    Ok(Slot {
+        set: Some(copy_bytes(alloc, set)?),
+        column: Some(copy_bytes(alloc, column.name.as_slice())?),
+        typing: Typing::OfKind(column.kind),
+    })
+}
+
+/// The places of a record set behind others.
+fn add_slots(
+    alloc: Global,
+    before: Slots,
+    set: &[u8],
+    columns: &ColumnDefs,
+) -> Result<Slots, NoMemory>
+    ensures { IfOk result (λ slots. map plain_slot slots ≡ map plain_slot before ++ spec.set_slots set.now columns.now) }
+{
+    let mut slots = before;
+    slots.push(Slot {
+        set: Some(copy_bytes(alloc, set)?),
+        column: None,
+        typing: Typing::OfKind(Kind::Int64),
+    })?;
+    'columns: for column in columns.as_slice() {
+        slots.push(column_slot(alloc, set, column)?)?;
+    }
+    Ok(slots)
+}
+
+/// A table as a further record set with a name.
+fn add_table(
+    alloc: Global,
+    slots: Slots,
+    set: &[u8],
+    name: &[u8],
+    table: Option<&TableSchema>,
+) -> Result<Slots, CheckFault>
+    ensures { Gives (map plain_slot) (spec.add_table (map plain_slot slots) set.now name.now (table_of table.entry)) result }
+{
+    let Some(table) = table else {
+        return Err(refused_at(alloc, NO_TABLE, name));
+    };
+    if is_taken(set, slots.as_slice()) {
+        return Err(refused_at(alloc, AMBIGUOUS, set));
+    }
+    Ok(add_slots(alloc, slots, set, &table.columns)?)
+}
+
+/// What a record set is called.
+fn set_name<'a>(alias: &'a Option<Name>, table: &'a Name) -> &'a [u8]
+    ensures { result.now ≡ spec.set_name alias.now table.now }
+{
+    match alias {
+        Some(alias) => alias.as_slice(),
+        None => table.as_slice(),
+    }
+}
+
+/// A further record set that is a table.
+fn add_named(
+    alloc: Global,
+    schema: &Schema,
+    slots: Slots,
+    alias: &Option<Name>,
+    name: &Name,
+) -> Result<Slots, CheckFault>
+    ensures { Gives (map plain_slot) (spec.add_named schema.now (map plain_slot slots) alias.now name.now) result }
+{
+    if is_metadata(name.as_slice()) {
+        return Err(refused(alloc, LATER));
+    }
+    let table = table_named(name.as_slice(), &schema.tables);
+    add_table(alloc, slots, set_name(alias, name), name.as_slice(), table)
+}
+
+/// A further record set.
+fn add_set(alloc: Global, schema: &Schema, slots: Slots, set: &FromSet) -> Result<Slots, CheckFault>
+    ensures { Gives (map plain_slot) (spec.add_set schema.now (map plain_slot slots) set.now) result }
+{
+    match &set.source {
+        SetSource::Table(name) => add_named(alloc, schema, slots, &set.alias, name),
+        SetSource::Query(_) => Err(refused(alloc, LATER)),
+    }
+}
+
+/// The record sets of a FROM, from left to right.
+pub(crate) fn add_sets(alloc: Global, schema: &Schema, sets: &FromSets) -> Result<Slots, CheckFault>
+    ensures { Gives (map plain_slot) (spec.add_sets schema.now [] sets.now) result }
+{
+    let mut slots = Slots::new(alloc);
+    'sets: for set in sets.as_slice() {
+        slots = add_set(alloc, schema, slots, set)?;
+    }
+    Ok(slots)
+}

@@ -1,0 +1,112 @@
+#![tactic(auto, using(crate::proofs::Prefixes::under_none, crate::proofs::Prefixes::under_some, crate::proofs::Prefixes::last_prefix, crate::proofs::Prefixes::minus_last, crate::proofs::Prefixes::front_last))]
+
+ghost use Rattle.std.specs.Prelude.{◌≡◌, [], ◌∷◌, ◌++◌, Ok, Some, true, false, MatchOption};
+ghost use Rattle.ql_parse.specs.Typing as types;
+ghost use Rattle.ql_rel.specs.Operands as spec;
+ghost use Rattle.ql_check.specs.Gives.{Gives};
+ghost use Rattle.ql_check.specs.Plain.{plain, plain_literal, typing_of};
+
+use crate::CheckFault;
+use crate::checked::{Checked, Literal, literal_of, ruled};
+use crate::table::{Typing, prefix_type};
+use ql_edge::Boxed;
+use ql_parse::Typed;
+use ql_value::{UnOp, UnOps};
+use std::alloc::Global;
+
+/// The last operator, and those before it.
+fn last(ops: &[UnOp]) -> Option<(UnOp, &[UnOp])>
+    ensures { MatchOption result (ops.now ≡ []) (λ pair. ops.now ≡ pair.1.now ++ pair.0 ∷ []) }
+{
+    if ops.is_empty() {
+        return None;
+    }
+    let end = ops.len() - 1;
+    Some((ops[end], &ops[..end]))
+}
+
+/// What operators before a part take and give. The last one comes first.
+fn prefixed_type(ops: &[UnOp], typing: Typing) -> Typing
+    ensures { typing_of result ≡ types.prefixed_type ops.now (typing_of typing) }
+{
+    let mut typing = typing;
+    let mut left = ops;
+    'ops: while let Some((op, front)) = last(left) {
+        typing = prefix_type(op, typing);
+        left = front;
+    }
+    typing
+}
+
+/// The operators before a last minus.
+fn before_minus(ops: &[UnOp]) -> Option<&[UnOp]>
+    ensures { MatchOption result (spec.ends_with_minus ops.now ≡ false) (λ front. (spec.ends_with_minus ops.now ≡ true) × (spec.but_last ops.now ≡ front.now)) }
+{
+    match last(ops) {
+        Some((UnOp::Minus, front)) => Some(front),
+        _ => None,
+    }
+}
+
+/// Operators before a part whose literal has its minus.
+fn under(alloc: Global, ops: &[UnOp], checked: Checked) -> Result<Checked, CheckFault>
+    ensures { Gives plain (spec.under ops.now (plain checked)) result }
+{
+    if ops.len() > 0 {
+        signed(alloc, ops, checked)
+    } else {
+        Ok(checked)
+    }
+}
+
+/// At least one operator before a part.
+fn signed(alloc: Global, ops: &[UnOp], checked: Checked) -> Result<Checked, CheckFault>
+    ensures { Gives plain (spec.signed ops.now (plain checked)) result }
+{
+    let typing = ruled(alloc, prefixed_type(ops, checked.typing))?;
+    let mut copy = UnOps::new(alloc);
+    copy.extend(ops)?;
+    let part = Boxed::new(alloc, checked.tree)?;
+    Ok(Checked {
+        literal: None,
+        untyped: checked.untyped,
+        typing,
+        tree: Typed::Unary { ops: copy, part },
+    })
+}
+
+/// Operators before a part. A minus directly before a literal belongs to it.
+#[inline(never)]
+pub(crate) fn prefixed(alloc: Global, ops: &[UnOp], checked: Checked) -> Result<Checked, CheckFault>
+    ensures { Gives plain (spec.prefixed ops.now (plain checked)) result }
+{
+    match checked.literal {
+        Some(literal) => before_literal(alloc, ops, literal, checked),
+        None => under(alloc, ops, checked),
+    }
+}
+
+/// Operators before a literal.
+fn before_literal(
+    alloc: Global,
+    ops: &[UnOp],
+    literal: Literal,
+    checked: Checked,
+) -> Result<Checked, CheckFault>
+    ensures { Gives plain (spec.prefixed_by ops.now (Some (plain_literal literal)) (plain checked)) result }
+{
+    if literal.minus {
+        return under(alloc, ops, checked);
+    }
+    let Some(front) = before_minus(ops) else {
+        return under(alloc, ops, checked);
+    };
+    let negative = literal_of(
+        alloc,
+        Literal {
+            minus: true,
+            size: literal.size,
+        },
+    )?;
+    under(alloc, front, negative)
+}

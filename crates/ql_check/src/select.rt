@@ -1,0 +1,263 @@
+ghost use Rattle.std.specs.Prelude.{◌≡◌, if◌then◌else◌, [], Ok, map, IfOk};
+ghost use Rattle.ql_rel.specs.Plans as spec;
+ghost use Rattle.ql_check.specs.Gives.{Gives, same};
+ghost use Rattle.ql_check.specs.Names.{plain_scope, plain_slot};
+ghost use Rattle.ql_check.specs.Outputs.{AreColumns, plain_limits, plain_output, plain_shown, plain_source};
+ghost use Rattle.ql_check.specs.Plain.{test_of};
+
+use crate::CheckFault;
+use crate::checked::ruled;
+use crate::expression::check_expr;
+use crate::fault::refused;
+use crate::from::add_sets;
+use crate::scope::{Scope, Slots};
+use crate::shown::{Shown, ShownList, any_aggregate, field_slots, fields_of};
+use crate::table::{Group, among};
+use ql_edge::{Names0, NoMemory, Numbers};
+use ql_parse::{Expr, Exprs, Join, OptTypeds, Select, Typed, TypedRows, Typeds};
+use ql_rel::{Plan, Schema};
+use ql_value::LATER;
+use std::alloc::Global;
+
+/// What stands before the fields of a SELECT.
+#[derive(Drop)]
+struct Source {
+    scope: Scope,
+    filter: Option<Typed>,
+    groups: Typeds,
+}
+
+/// What a SELECT shows, and by what it is ordered.
+#[derive(Drop)]
+struct Output {
+    fields: ShownList,
+    grouped: bool,
+    keys: Typeds,
+}
+
+/// LIMIT and OFFSET.
+#[derive(Drop)]
+struct Limits {
+    limit: Option<Typed>,
+    offset: Option<Typed>,
+}
+
+/// A row, and no field.
+fn row_scope(alloc: Global, slots: Slots) -> Result<Scope, NoMemory>
+    ensures { IfOk result (λ scope. plain_scope scope ≡ spec.row_scope (map plain_slot slots)) }
+{
+    match u32::try_from(slots.len()) {
+        Ok(width) => Ok(Scope {
+            seen: slots,
+            fields: Slots::new(alloc),
+            width,
+        }),
+        Err(_) => Err(NoMemory),
+    }
+}
+
+/// The places that ORDER BY sees of a row.
+fn seen_of(alloc: Global, hides: bool, slots: Slots) -> Slots
+    ensures { map plain_slot result ≡ (if hides then [] else map plain_slot slots) }
+{
+    if hides {
+        return Slots::new(alloc);
+    }
+    slots
+}
+
+/// What ORDER BY sees.
+fn key_scope(
+    alloc: Global,
+    hides: bool,
+    scope: Scope,
+    fields: &ShownList,
+) -> Result<Scope, NoMemory>
+    ensures { IfOk result (λ keys. plain_scope keys ≡ spec.key_scope hides (plain_scope scope) (map plain_shown fields.now)) }
+{
+    let fields = field_slots(alloc, fields.as_slice())?;
+    let Scope { seen, width, .. } = scope;
+    let seen = seen_of(alloc, hides, seen);
+    Ok(Scope {
+        seen,
+        fields,
+        width,
+    })
+}
+
+/// An expression without aggregate, whose kind is of a group.
+fn tested(alloc: Global, group: Group, scope: &Scope, expr: &Expr) -> Result<Typed, CheckFault>
+    ensures { Gives same (spec.tested (test_of group) (plain_scope scope.now) expr.now) result }
+{
+    let checked = check_expr(alloc, expr, scope, false)?;
+    ruled(alloc, among(group, checked.typing))?;
+    Ok(checked.tree)
+}
+
+/// The same, where it stands.
+fn tested_if(
+    alloc: Global,
+    group: Group,
+    scope: &Scope,
+    expr: &Option<Expr>,
+) -> Result<Option<Typed>, CheckFault>
+    ensures { Gives same (spec.tested_if (test_of group) (plain_scope scope.now) expr.now) result }
+{
+    match expr {
+        Some(expr) => Ok(Some(tested(alloc, group, scope, expr)?)),
+        None => Ok(None),
+    }
+}
+
+/// An expression without aggregate, of any type.
+fn resolved_one(alloc: Global, scope: &Scope, expr: &Expr) -> Result<Typed, CheckFault>
+    ensures { Gives same (spec.resolved_one (plain_scope scope.now) expr.now) result }
+{
+    let checked = check_expr(alloc, expr, scope, false)?;
+    Ok(checked.tree)
+}
+
+/// Expressions without aggregate, of any types.
+fn resolved(alloc: Global, scope: &Scope, exprs: &Exprs) -> Result<Typeds, CheckFault>
+    ensures { Gives same (spec.resolved (plain_scope scope.now) exprs.now) result }
+{
+    let mut trees = Typeds::new(alloc);
+    'exprs: for expr in exprs.as_slice() {
+        trees.push(resolved_one(alloc, scope, expr)?)?;
+    }
+    Ok(trees)
+}
+
+/// A join is not built yet.
+fn without_join(alloc: Global, join: &Option<Join>) -> Result<(), CheckFault>
+    ensures { Gives same (spec.without_join join.now) result }
+{
+    match join {
+        Some(_) => Err(refused(alloc, LATER)),
+        None => Ok(()),
+    }
+}
+
+/// FROM, join, WHERE and GROUP BY.
+fn source_of(alloc: Global, schema: &Schema, select: &Select) -> Result<Source, CheckFault>
+    ensures { Gives plain_source (spec.source_of schema.now select.now) result }
+{
+    let slots = add_sets(alloc, schema, &select.sets)?;
+    without_join(alloc, &select.join)?;
+    let scope = row_scope(alloc, slots)?;
+    let filter = tested_if(alloc, Group::Truths, &scope, &select.filter)?;
+    let groups = resolved(alloc, &scope, &select.groups)?;
+    Ok(Source {
+        scope,
+        filter,
+        groups,
+    })
+}
+
+/// The fields, then ORDER BY.
+fn output_of(
+    alloc: Global,
+    scope: Scope,
+    grouped: bool,
+    select: &Select,
+) -> Result<Output, CheckFault>
+    ensures { Gives plain_output (spec.output_of (plain_scope scope) grouped select.now) result }
+{
+    let fields = fields_of(alloc, &scope, &select.fields)?;
+    let grouped = grouped || any_aggregate(fields.as_slice());
+    let scope = key_scope(alloc, select.distinct || grouped, scope, &fields)?;
+    let keys = resolved(alloc, &scope, &select.keys)?;
+    Ok(Output {
+        fields,
+        grouped,
+        keys,
+    })
+}
+
+/// LIMIT, then OFFSET.
+fn limits_of(alloc: Global, select: &Select) -> Result<Limits, CheckFault>
+    ensures { Gives plain_limits (spec.limits_of select.now) result }
+{
+    let scope = row_scope(alloc, Slots::new(alloc))?;
+    let limit = tested_if(alloc, Group::Integers, &scope, &select.limit)?;
+    let offset = tested_if(alloc, Group::Integers, &scope, &select.offset)?;
+    Ok(Limits { limit, offset })
+}
+
+/// The expressions and the names of what a SELECT shows.
+#[derive(Drop)]
+struct Columns {
+    fields: Typeds,
+    names: Names0,
+}
+
+fn columns_of(alloc: Global, shown: ShownList) -> Result<Columns, NoMemory>
+    ensures { IfOk result (λ columns. AreColumns columns (map plain_shown shown)) }
+{
+    let mut fields = Typeds::new(alloc);
+    let mut names = Names0::new(alloc);
+    'shown: for field in shown.into_vec() {
+        let Shown { name, tree, .. } = field;
+        fields.push(tree)?;
+        names.push(name)?;
+    }
+    Ok(Columns { fields, names })
+}
+
+/// The parts of a plan together.
+fn plan_of(
+    alloc: Global,
+    filter: Option<Typed>,
+    groups: Typeds,
+    output: Output,
+    limits: Limits,
+) -> Result<Plan, CheckFault>
+    ensures { Gives same (Ok (spec.plan_of filter groups (plain_output output) (plain_limits limits))) result }
+{
+    let Output {
+        fields,
+        grouped,
+        keys,
+    } = output;
+    let columns = columns_of(alloc, fields)?;
+    Ok(Plan {
+        fields: columns.fields,
+        names: columns.names,
+        filter,
+        join_on: None,
+        groups,
+        grouped,
+        keys,
+        limit: limits.limit,
+        offset: limits.offset,
+        rows: TypedRows::new(alloc),
+        targets: Numbers::new(alloc),
+        rules: OptTypeds::new(alloc),
+        defaults: OptTypeds::new(alloc),
+    })
+}
+
+/// Whether GROUP BY stands.
+fn has_groups(groups: &Typeds) -> bool
+    ensures { result ≡ spec.is_some_list groups.now }
+{
+    groups.len() > 0
+}
+
+/// The plan of a SELECT.
+pub(crate) fn select_plan(
+    alloc: Global,
+    schema: &Schema,
+    select: &Select,
+) -> Result<Plan, CheckFault>
+    ensures { Gives same (spec.select_plan schema.now select.now) result }
+{
+    let Source {
+        scope,
+        filter,
+        groups,
+    } = source_of(alloc, schema, select)?;
+    let output = output_of(alloc, scope, has_groups(&groups), select)?;
+    let limits = limits_of(alloc, select)?;
+    plan_of(alloc, filter, groups, output, limits)
+}

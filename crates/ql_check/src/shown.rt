@@ -1,0 +1,231 @@
+ghost use Rattle.std.specs.Prelude.{◌≡◌, ◌++◌, None, map, IfOk};
+ghost use Rattle.ql_parse.specs.declared.syntax.Field.{out-Field};
+ghost use Rattle.ql_rel.specs.Plans as spec;
+ghost use Rattle.ql_rel.specs.Types.{plain_name};
+ghost use Rattle.ql_check.specs.Gives.{Gives};
+ghost use Rattle.ql_check.specs.Names.{plain_scope, plain_slot};
+ghost use Rattle.ql_check.specs.Outputs.{name_or_none, plain_shown};
+
+use crate::CheckFault;
+use crate::aggregate::has_aggregate;
+use crate::expression::check_expr;
+use crate::fault::refused;
+use crate::from::copy_bytes;
+use crate::scope::{Scope, Slot, Slots, qualified};
+use crate::table::Typing;
+use ql_edge::{Bytes, Items, Name, NoMemory};
+use ql_parse::{Expr, Field, Fields, Typed};
+use ql_value::COUNT;
+use std::alloc::Global;
+
+/// What a SELECT shows in one column. The name is empty where there is none.
+#[derive(Drop)]
+pub(crate) struct Shown {
+    pub name: Bytes,
+    pub typing: Typing,
+    pub tree: Typed,
+}
+
+/// What a SELECT shows.
+pub(crate) type ShownList = Items<Shown>;
+
+/// The name of the column that an expression is, with or without its table.
+fn column_name(expr: &Expr) -> Option<&Name>
+    ensures { spec.field_name None (plain_name expr.now) ≡ name_or_none result }
+{
+    match expr {
+        Expr::Column { column, .. } => Some(column),
+        Expr::Chain { .. }
+        | Expr::Unary { .. }
+        | Expr::Number(_)
+        | Expr::Text(_)
+        | Expr::Truth(_)
+        | Expr::Null
+        | Expr::Paren(_)
+        | Expr::Call { .. }
+        | Expr::Convert { .. }
+        | Expr::IsIn { .. }
+        | Expr::IsInSelect { .. }
+        | Expr::IsBetween { .. }
+        | Expr::IsNull { .. } => None,
+    }
+}
+
+/// The name of a field.
+fn field_name(alloc: Global, alias: &Option<Name>, expr: &Expr) -> Result<Bytes, NoMemory>
+    ensures { IfOk result (λ name. name ≡ spec.field_name alias.now (plain_name expr.now)) }
+{
+    match alias {
+        Some(alias) => copy_bytes(alloc, alias.as_slice()),
+        None => match column_name(expr) {
+            Some(name) => copy_bytes(alloc, name.as_slice()),
+            None => Ok(Bytes::new(alloc)),
+        },
+    }
+}
+
+/// A field.
+fn shown_field(alloc: Global, scope: &Scope, field: &Field) -> Result<Shown, CheckFault>
+    ensures { Gives plain_shown (spec.shown_field (plain_scope scope.now) (out-Field field.now).alias (out-Field field.now).expr) result }
+{
+    let checked = check_expr(alloc, &field.expr, scope, true)?;
+    let name = field_name(alloc, &field.alias, &field.expr)?;
+    Ok(Shown {
+        name,
+        typing: checked.typing,
+        tree: checked.tree,
+    })
+}
+
+/// Fields that are written.
+fn shown_fields(alloc: Global, scope: &Scope, fields: &Fields) -> Result<ShownList, CheckFault>
+    ensures { Gives (map plain_shown) (spec.shown_fields (plain_scope scope.now) fields.now) result }
+{
+    let mut shown = ShownList::new(alloc);
+    'fields: for field in fields.as_slice() {
+        shown.push(shown_field(alloc, scope, field)?)?;
+    }
+    Ok(shown)
+}
+
+/// Whether the slot is the id of a record set with a name.
+fn is_named_set(slot: &Slot) -> bool
+    ensures { result ≡ spec.is_named_set slot.now.set slot.now.column }
+{
+    match (&slot.set, &slot.column) {
+        (Some(_), None) => true,
+        _ => false,
+    }
+}
+
+/// Whether two record sets or more have a name.
+fn are_several(slots: &[Slot]) -> bool
+    ensures { result ≡ spec.are_several (map plain_slot slots.now) }
+{
+    let mut one = false;
+    'slots: for slot in slots {
+        if is_named_set(slot) {
+            if one {
+                return true;
+            }
+            one = true;
+        }
+    }
+    false
+}
+
+/// The name of a column of `*`.
+fn star_name(
+    alloc: Global,
+    several: bool,
+    set: &Option<Bytes>,
+    column: &[u8],
+) -> Result<Bytes, NoMemory>
+    ensures { IfOk result (λ name. name ≡ spec.star_name several set.now column.now) }
+{
+    match (several, set) {
+        (true, Some(set)) => qualified(alloc, set.as_slice(), column),
+        _ => copy_bytes(alloc, column),
+    }
+}
+
+/// The fields so far, with that of a slot which is a column.
+fn add_star_field(
+    alloc: Global,
+    several: bool,
+    at: u32,
+    slot: &Slot,
+    before: ShownList,
+) -> Result<ShownList, NoMemory>
+    ensures { IfOk result (λ shown. map plain_shown shown ≡ map plain_shown before ++ spec.star_field several at (plain_slot slot.now) slot.now.column) }
+{
+    let Some(column) = &slot.column else {
+        return Ok(before);
+    };
+    let name = star_name(alloc, several, &slot.set, column.as_slice())?;
+    let mut shown = before;
+    shown.push(Shown {
+        name,
+        typing: slot.typing,
+        tree: Typed::Place { at },
+    })?;
+    Ok(shown)
+}
+
+/// The fields of `*`.
+fn star_fields(alloc: Global, several: bool, slots: &[Slot]) -> Result<ShownList, NoMemory>
+    ensures { IfOk result (λ shown. map plain_shown shown ≡ spec.star_fields several 0 (map plain_slot slots.now)) }
+{
+    let mut shown = ShownList::new(alloc);
+    let mut at = 0;
+    'slots: for slot in slots {
+        shown = add_star_field(alloc, several, at, slot, shown)?;
+        at = match at.checked_add(1) {
+            Some(next) => next,
+            None => return Err(NoMemory),
+        };
+    }
+    Ok(shown)
+}
+
+/// `*`
+fn star(alloc: Global, slots: &[Slot]) -> Result<ShownList, CheckFault>
+    ensures { Gives (map plain_shown) (spec.star (map plain_slot slots.now)) result }
+{
+    if slots.is_empty() {
+        return Err(refused(alloc, COUNT));
+    }
+    Ok(star_fields(alloc, are_several(slots), slots)?)
+}
+
+/// What a SELECT shows.
+pub(crate) fn fields_of(
+    alloc: Global,
+    scope: &Scope,
+    fields: &Fields,
+) -> Result<ShownList, CheckFault>
+    ensures { Gives (map plain_shown) (spec.shown (plain_scope scope.now) fields.now) result }
+{
+    if fields.len() == 0 {
+        return star(alloc, scope.seen.as_slice());
+    }
+    shown_fields(alloc, scope, fields)
+}
+
+/// Whether an aggregate stands in one of the fields.
+pub(crate) fn any_aggregate(fields: &[Shown]) -> bool
+    ensures { result ≡ spec.any_shown (map plain_shown fields.now) }
+{
+    'fields: for field in fields {
+        if has_aggregate(&field.tree) {
+            return true;
+        }
+    }
+    false
+}
+
+/// A field as a place behind the row.
+fn field_slot(alloc: Global, field: &Shown) -> Result<Slot, NoMemory>
+    ensures { IfOk result (λ slot. plain_slot slot ≡ spec.field_slot (plain_shown field.now)) }
+{
+    let mut column = None;
+    if field.name.len() > 0 {
+        column = Some(copy_bytes(alloc, field.name.as_slice())?);
+    }
+    Ok(Slot {
+        set: None,
+        column,
+        typing: field.typing,
+    })
+}
+
+/// The fields as places behind the row.
+pub(crate) fn field_slots(alloc: Global, fields: &[Shown]) -> Result<Slots, NoMemory>
+    ensures { IfOk result (λ slots. map plain_slot slots ≡ spec.field_slots (map plain_shown fields.now)) }
+{
+    let mut slots = Slots::new(alloc);
+    'fields: for field in fields {
+        slots.push(field_slot(alloc, field)?)?;
+    }
+    Ok(slots)
+}

@@ -1,0 +1,31 @@
+ghost use Rattle.std.specs.Prelude.{IfOk};
+ghost use Rattle.ql_rel.specs.PlanTypes.{PlanTyped, row_types};
+ghost use Rattle.ql_rel.specs.Plans.{plan};
+ghost use Rattle.ql_check.specs.Gives.{Gives, same};
+
+use crate::CheckFault;
+use crate::fault::refused;
+use crate::select::select_plan;
+use ql_parse::Statement;
+use ql_rel::{Plan, Schema};
+use ql_value::LATER;
+use std::alloc::Global;
+
+/// The plan of a statement over the tables of a schema, or its first refusal. A SELECT is checked whole; every other
+/// statement is not built yet. The expressions of a plan have types at the rows of its record sets, as `eval` asks.
+pub fn check(alloc: Global, statement: &Statement, schema: &Schema) -> Result<Plan, CheckFault>
+    ensures plan { Gives same (plan schema.now statement.now) result }
+    ensures typed { IfOk result (PlanTyped (row_types schema.now statement.now)) }
+{
+    statement_plan(alloc, statement, schema)
+}
+
+/// The plan of a statement, or its first refusal.
+fn statement_plan(alloc: Global, statement: &Statement, schema: &Schema) -> Result<Plan, CheckFault>
+    ensures { Gives same (plan schema.now statement.now) result }
+{
+    match statement {
+        Statement::Query(select) => select_plan(alloc, schema, select),
+        _ => Err(refused(alloc, LATER)),
+    }
+}

@@ -1,0 +1,199 @@
+ghost use Rattle.std.specs.Prelude.{◌≡◌};
+ghost use Rattle.ql_parse.specs.Kinds as kinds;
+ghost use Rattle.ql_parse.specs.Typing as spec;
+ghost use Rattle.ql_check.specs.Plain.{test_of, typing_of};
+
+use ql_value::{BinOp, Kind, UnOp};
+
+/// What is known of the values of an expression.
+#[derive(Clone, Copy, Debug)]
+pub(crate) enum Typing {
+    /// They are all NULL.
+    OnlyNull,
+    /// They are NULL or of the kind.
+    OfKind(Kind),
+    /// The table of operators has no such form.
+    Ill,
+}
+
+/// A group of kinds.
+#[derive(Clone, Copy, Debug)]
+pub(crate) enum Group {
+    Integers,
+    Truths,
+    /// All kinds but that of truths.
+    Ordered,
+    /// Integers and strings, which `+` takes.
+    Sums,
+    Strings,
+    /// Strings and blobs.
+    ByteLists,
+    /// The kinds that are converted to this one.
+    Into(Kind),
+}
+
+pub(crate) fn is_integer(kind: Kind) -> bool
+    ensures { result ≡ kinds.is_integer kind }
+{
+    match kind {
+        Kind::Bool | Kind::Text | Kind::Blob => false,
+        _ => true,
+    }
+}
+
+fn is_truth(kind: Kind) -> bool
+    ensures { result ≡ kinds.is_truth kind }
+{
+    match kind {
+        Kind::Bool => true,
+        _ => false,
+    }
+}
+
+fn is_text(kind: Kind) -> bool
+    ensures { result ≡ kinds.is_text kind }
+{
+    match kind {
+        Kind::Text => true,
+        _ => false,
+    }
+}
+
+fn is_byte_list(kind: Kind) -> bool
+    ensures { result ≡ kinds.is_byte_list kind }
+{
+    match kind {
+        Kind::Text | Kind::Blob => true,
+        _ => false,
+    }
+}
+
+/// The place of a kind among the kinds.
+fn kind_number(kind: Kind) -> u8
+    ensures { result ≡ kinds.kind_number kind }
+{
+    match kind {
+        Kind::Bool => 0,
+        Kind::Int8 => 1,
+        Kind::Int16 => 2,
+        Kind::Int32 => 3,
+        Kind::Int64 => 4,
+        Kind::Uint8 => 5,
+        Kind::Uint16 => 6,
+        Kind::Uint32 => 7,
+        Kind::Uint64 => 8,
+        Kind::Text => 9,
+        Kind::Blob => 10,
+    }
+}
+
+pub(crate) fn same_kind(a: Kind, b: Kind) -> bool
+    ensures { result ≡ kinds.same_kind a b }
+{
+    kind_number(a) == kind_number(b)
+}
+
+/// Whether a value of the second kind is converted to the first.
+fn converts(to: Kind, from: Kind) -> bool
+    ensures { result ≡ spec.converts to from }
+{
+    is_truth(to) && is_truth(from)
+        || is_integer(to) && is_integer(from)
+        || is_byte_list(to) && is_byte_list(from)
+}
+
+/// Whether the kind is of the group.
+fn holds(group: Group, kind: Kind) -> bool
+    ensures { result ≡ test_of group kind }
+{
+    match group {
+        Group::Integers => is_integer(kind),
+        Group::Truths => is_truth(kind),
+        Group::Ordered => !is_truth(kind),
+        Group::Sums => is_integer(kind) || is_text(kind),
+        Group::Strings => is_text(kind),
+        Group::ByteLists => is_byte_list(kind),
+        Group::Into(to) => converts(to, kind),
+    }
+}
+
+/// The type, where its kind is of the group.
+pub(crate) fn among(group: Group, typing: Typing) -> Typing
+    ensures { typing_of result ≡ spec.among (test_of group) (typing_of typing) }
+{
+    match typing {
+        Typing::OfKind(kind) => {
+            if holds(group, kind) {
+                Typing::OfKind(kind)
+            } else {
+                Typing::Ill
+            }
+        }
+        other => other,
+    }
+}
+
+/// The second type, where there is a first one.
+pub(crate) fn given_type(first: Typing, typing: Typing) -> Typing
+    ensures { typing_of result ≡ spec.given_type (typing_of first) (typing_of typing) }
+{
+    match first {
+        Typing::Ill => Typing::Ill,
+        _ => typing,
+    }
+}
+
+/// The one type of two parts.
+pub(crate) fn meet(left: Typing, right: Typing) -> Typing
+    ensures { typing_of result ≡ spec.meet (typing_of left) (typing_of right) }
+{
+    match (left, right) {
+        (Typing::Ill, _) => Typing::Ill,
+        (_, Typing::Ill) => Typing::Ill,
+        (Typing::OnlyNull, other) => other,
+        (other, Typing::OnlyNull) => other,
+        (Typing::OfKind(a), Typing::OfKind(b)) => {
+            if same_kind(a, b) {
+                Typing::OfKind(a)
+            } else {
+                Typing::Ill
+            }
+        }
+    }
+}
+
+/// A truth, where there is a type.
+pub(crate) fn truth_of(typing: Typing) -> Typing
+    ensures { typing_of result ≡ spec.truth_of (typing_of typing) }
+{
+    given_type(typing, Typing::OfKind(Kind::Bool))
+}
+
+/// What an operator between two parts gives.
+pub(crate) fn operator_type(op: BinOp, left: Typing, right: Typing) -> Typing
+    ensures { typing_of result ≡ spec.operator_type op (typing_of left) (typing_of right) }
+{
+    match op {
+        BinOp::Add => among(Group::Sums, meet(left, right)),
+        BinOp::Shl | BinOp::Shr => {
+            given_type(among(Group::Integers, right), among(Group::Integers, left))
+        }
+        BinOp::Eq | BinOp::Ne => truth_of(meet(left, right)),
+        BinOp::Lt | BinOp::Le | BinOp::Gt | BinOp::Ge => {
+            truth_of(among(Group::Ordered, meet(left, right)))
+        }
+        BinOp::Both | BinOp::Either => truth_of(among(Group::Truths, meet(left, right))),
+        BinOp::Like => Typing::Ill,
+        _ => among(Group::Integers, meet(left, right)),
+    }
+}
+
+/// What an operator before a part takes and gives.
+pub(crate) fn prefix_type(op: UnOp, typing: Typing) -> Typing
+    ensures { typing_of result ≡ spec.prefix_type op (typing_of typing) }
+{
+    match op {
+        UnOp::Not => among(Group::Truths, typing),
+        _ => among(Group::Integers, typing),
+    }
+}

@@ -1,0 +1,127 @@
+-- Literals, and what they meet, have the types that are said of them.
+use Rattle.std.proofs.Common.{◌≡◌, ℤ, Bool, true, false, ◌&&◌, if◌then◌else◌, List, Option, Some, None, Ok, Err, refl, ap, subst, ◌∙◌}
+use Rattle.std.specs.Prelude.{int_le}
+use Rattle.std.proofs.Math.Dec.{T}
+use Rattle.ql_value.specs.Number.{has_number, wrapped, IsInteger, least, greatest}
+use Rattle.ql_value.specs.declared.refusal.TheConstants.{CONSTANT_RANGE}
+use Rattle.ql_value.specs.declared.value.Kind.{Kind}
+use Rattle.ql_value.specs.declared.value.Kind.TheVariants as k
+use Rattle.ql_value.specs.declared.value.Value.TheVariants as v
+use Rattle.ql_value.proofs.KindLaws.{the_kind_laws}
+use Rattle.ql_parse.specs.declared.typed.Typed.{Typed}
+use Rattle.ql_parse.specs.declared.typed.Typed.TheVariants as t
+use Rattle.ql_parse.specs.Kinds.{is_integer, same_kind}
+use Rattle.ql_parse.specs.Typing.{Typing, only_null, of_kind, ill, IsTyped, among, given_type}
+use Rattle.ql_rel.specs.Answers.{Answer, then_with, refused}
+use Rattle.ql_rel.specs.Checked.{Literal, Checked, known, number_of, literal_kind, literal_of, literal_in, narrowed, take_kind, meet_type, is_number_type, kind_or_int64, ruled, bracketed}
+use Rattle.ql_rel.specs.PlanTypes.{type_by}
+use Rattle.ql_rel.proofs.TypedBy.{by_constant, by_narrow}
+
+-- a part of an answer that stands
+pub then_ok : {A B : Type 0} (a : Answer A) (f : A → Answer B) (y : B) → then_with a f ≡ Ok y → (x : A) × (a ≡ Ok x) × (f x ≡ Ok y)
+then_ok (Ok x) f y h = (x, refl, h)
+then_ok (Err r) f y h = absurd (cc)
+
+pub same_ok : {A : Type 0} (x y : A) → ◌≡◌ {A = Answer A} (Ok x) (Ok y) → x ≡ y
+same_ok x y h = cc
+
+pub ruled_ok : (t u : Typing) → ruled t ≡ Ok u → IsTyped t × (t ≡ u)
+ruled_ok only_null u h = (tt, same_ok only_null u h)
+ruled_ok (of_kind kind) u h = (tt, same_ok (of_kind kind) u h)
+ruled_ok ill u h = absurd (cc)
+
+-- what is said of an expression is so
+pub record Fits (may : Bool) (types : List Typing) (c : Checked) : Type 0 where
+  pub typed : IsTyped c.type
+  pub is : type_by may types c.tree ≡ c.type
+  pub loose : c.untyped ≡ true → c.type ≡ of_kind k.Int64
+
+integer_kind : (kind : Kind) → is_integer kind ≡ true → among is_integer (of_kind kind) ≡ of_kind kind
+integer_kind kind h = ap (λ b. if b then of_kind kind else ill) h
+
+int64_kind : (kind : Kind) → same_kind kind k.Int64 ≡ true → of_kind k.Int64 ≡ of_kind kind
+int64_kind k.Bool h = absurd (cc)
+int64_kind k.Int8 h = absurd (cc)
+int64_kind k.Int16 h = absurd (cc)
+int64_kind k.Int32 h = absurd (cc)
+int64_kind k.Int64 h = refl
+int64_kind k.Uint8 h = absurd (cc)
+int64_kind k.Uint16 h = absurd (cc)
+int64_kind k.Uint32 h = absurd (cc)
+int64_kind k.Uint64 h = absurd (cc)
+int64_kind k.Text h = absurd (cc)
+int64_kind k.Blob h = absurd (cc)
+
+integer_is : (kind : Kind) → is_integer kind ≡ true → IsInteger kind
+integer_is k.Bool h = absurd (cc)
+integer_is k.Text h = absurd (cc)
+integer_is k.Blob h = absurd (cc)
+integer_is _ h = tt
+
+anded : (a b : Bool) → T a → T b → (a && b) ≡ true
+anded true true p q = refl
+anded true false p q = absurd q
+anded false b p q = absurd p
+
+pub both_true : (a b : Bool) → (a && b) ≡ true → (a ≡ true) × (b ≡ true)
+both_true true b h = (refl, h)
+both_true false b h = absurd (cc)
+
+pub number_kind : (u : Typing) → is_number_type u ≡ true → is_integer (kind_or_int64 u) ≡ true
+number_kind only_null h = absurd (cc)
+number_kind (of_kind kind) h = h
+number_kind ill h = absurd (cc)
+
+module _ (may : Bool) (types : List Typing) where
+  pub known_fits : (u : Typing) (tree : Typed) → IsTyped u → type_by may types tree ≡ u → Fits may types (known u tree)
+  known_fits u tree h e = record { typed = h; is = e; loose = λ f. absurd (cc) }
+
+  number_type : (kind : Kind) (z : ℤ) → is_integer kind ≡ true → has_number kind z ≡ true → type_by may types (t.Constant (v.Int kind z)) ≡ of_kind kind
+  number_type kind z h e = by_constant may types (v.Int kind z) ∙ ap (λ b. if b && has_number kind z then of_kind kind else ill) h ∙ ap (λ b. if b then of_kind kind else ill) e
+
+  in_kind : (kind : Kind) (z : ℤ) (b : Bool) (c : Checked) → has_number kind z ≡ b → is_integer kind ≡ true → (if b then Ok (known (of_kind kind) (t.Constant (v.Int kind z))) else refused CONSTANT_RANGE) ≡ Ok c → Fits may types c
+  in_kind kind z true c e h a = subst (Fits may types) (same_ok _ c a) (known_fits (of_kind kind) (t.Constant (v.Int kind z)) tt (number_type kind z h e))
+  in_kind kind z false c e h a = absurd (cc)
+
+  pub literal_in_fits : (kind : Kind) (l : Literal) (c : Checked) → is_integer kind ≡ true → literal_in kind l ≡ Ok c → Fits may types c
+  literal_in_fits kind l c h a = in_kind kind (number_of l) (has_number kind (number_of l)) c refl h a
+
+  wrapped_number : (kind : Kind) (z : ℤ) → is_integer kind ≡ true → has_number kind (wrapped kind z) ≡ true
+  wrapped_number kind z h =
+      let law = the_kind_laws.conversion kind (v.Int kind z) (integer_is kind h) in
+      anded (int_le (least kind) (wrapped kind z)) (int_le (wrapped kind z) (greatest kind)) law.2.0.le law.2.1.le
+
+  kind_is_integer : (b : Bool) → is_integer (if b then k.Int64 else k.Uint64) ≡ true
+  kind_is_integer true = refl
+  kind_is_integer false = refl
+
+  -- a literal that meets no kind
+  pub literal_fits : (l : Literal) → Fits may types (literal_of l)
+  literal_fits l =
+      let z = number_of l in
+      let kind = literal_kind z in
+      record {
+        typed = tt;
+        is = number_type kind (wrapped kind z) (kind_is_integer (has_number k.Int64 z)) (wrapped_number kind z (kind_is_integer (has_number k.Int64 z)));
+        loose = λ h. ap (λ b. of_kind (if b then k.Int64 else k.Uint64)) h;
+      }
+
+  narrow_type : (kind : Kind) (tree : Typed) (b : Bool) → same_kind kind k.Int64 ≡ b → is_integer kind ≡ true → type_by may types tree ≡ of_kind k.Int64 → type_by may types (if b then tree else t.Narrow kind tree) ≡ of_kind kind
+  narrow_type kind tree true s h e = e ∙ int64_kind kind s
+  narrow_type kind tree false s h e = by_narrow may types kind tree ∙ ap (λ u. given_type (among is_integer u) (among is_integer (of_kind kind))) e ∙ integer_kind kind h
+
+  -- an untyped expression that meets an integer kind
+  pub take_fits : (kind : Kind) (l : Option Literal) (tree : Typed) (c : Checked) → is_integer kind ≡ true → type_by may types tree ≡ of_kind k.Int64 → take_kind kind l tree ≡ Ok c → Fits may types c
+  take_fits kind (Some l) tree c h e a = literal_in_fits kind l c h a
+  take_fits kind None tree c h e a = subst (Fits may types) (same_ok _ c a) (known_fits (of_kind kind) (narrowed kind tree) tt (narrow_type kind tree (same_kind kind k.Int64) refl h e))
+
+  meets : (b : Bool) (u : Typing) (c d : Checked) → (c.untyped && is_number_type u) ≡ b → Fits may types c → (if b then take_kind (kind_or_int64 u) c.literal c.tree else Ok c) ≡ Ok d → Fits may types d
+  meets true u c d e f a = take_fits (kind_or_int64 u) c.literal c.tree d (number_kind u (both_true c.untyped (is_number_type u) e).1) (f.is ∙ f.loose (both_true c.untyped (is_number_type u) e).0) a
+  meets false u c d e f a = subst (Fits may types) (same_ok c d a) f
+
+  -- an expression beside one of a type
+  pub meet_fits : (u : Typing) (c d : Checked) → Fits may types c → meet_type u c ≡ Ok d → Fits may types d
+  meet_fits u c d f a = meets (c.untyped && is_number_type u) u c d refl f a
+
+  pub brackets_fit : (c : Checked) → Fits may types c → Fits may types (bracketed c)
+  brackets_fit c f = record { typed = f.typed; is = f.is; loose = f.loose }

@@ -1,0 +1,14 @@
+pub mod Answers
+pub mod Scopes
+pub mod Checked
+pub mod Operands
+pub mod Calls
+pub mod Types
+pub mod Aggregates
+pub mod Plans
+pub mod PlanTypes
+pub mod Forms
+pub mod Rows
+pub mod Tables
+pub mod Effect
+pub mod Meaning

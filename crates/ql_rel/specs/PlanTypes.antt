@@ -1,0 +1,78 @@
+-- What a plan promises of the types of its expressions.
+use Rattle.std.specs.Prelude.{◌≡◌, Bool, true, false, not, List, [], ◌∷◌, ◌++◌, map, Option, Some, None, option_map, IfSome, Ok, Err}
+use Rattle.ql_value.specs.declared.value.Kind.TheVariants as k
+use Rattle.ql_parse.specs.Kinds.{is_integer, is_truth}
+use Rattle.ql_parse.specs.Typing.{Typing, only_null, of_kind, ill, IsTyped, among, given_type, meet, StepType, type_of, type_step}
+use Rattle.ql_parse.specs.declared.syntax.Function.{Function}
+use Rattle.ql_parse.specs.declared.syntax.Function.TheVariants as f
+use Rattle.ql_parse.specs.declared.statement.Statement.{Statement}
+use Rattle.ql_parse.specs.declared.statement.Statement.TheVariants as s
+use Rattle.ql_parse.specs.declared.syntax.Select.{out-Select}
+use Rattle.ql_parse.specs.declared.typed.Typed.{Typed, map-Typed}
+use Rattle.ql_parse.specs.declared.typed.Typed.TheOpen.{Typed-F, TypedLink-F}
+use Rattle.ql_parse.specs.declared.typed.Typed.TheFolds.{fold-Typed}
+use Rattle.ql_rel.specs.declared.plan.Plan.{Plan}
+use Rattle.ql_rel.specs.declared.schema.Schema.{Schema}
+use Rattle.ql_rel.specs.Answers.{Answer}
+use Rattle.ql_rel.specs.Scopes.{Slot}
+use Rattle.ql_rel.specs.Plans.{add_sets}
+
+-- the types of the values at places
+abbrev pub slot_types : List Slot → List Typing
+slot_types slots = map (λ slot. slot.type) slots
+
+-- the types of the rows that the record sets of a FROM give: for each set that of its id, then those of its columns
+abbrev pub types_if : Answer (List Slot) → List Typing
+types_if (Ok slots) = slot_types slots
+types_if (Err r) = []
+
+abbrev pub row_types : Schema → Statement → List Typing
+row_types schema (s.Query select) = types_if (add_sets schema [] (out-Select select).sets)
+row_types schema _ = []
+
+-- the type of values, int64 where they are all NULL
+abbrev pub or_int64 : Typing → Typing
+or_int64 only_null = of_kind k.Int64
+or_int64 type = type
+
+-- the operand and the result of an aggregate, from the type of its part at a row; `count` alone may have no part
+abbrev pub aggregate_type : Function → Option Typing → Typing
+aggregate_type f.Count None = of_kind k.Int64
+aggregate_type f.Count (Some type) = given_type type (of_kind k.Int64)
+aggregate_type f.Sum (Some type) = or_int64 (among is_integer type)
+aggregate_type f.Avg (Some type) = or_int64 (among is_integer type)
+aggregate_type f.Min (Some type) = or_int64 (among (λ kind. not (is_truth kind)) type)
+aggregate_type f.Max (Some type) = or_int64 (among (λ kind. not (is_truth kind)) type)
+aggregate_type _ _ = ill
+
+-- one expression, by whether an aggregate may stand in it: where one may, it has its kind, which is what its function gives of its part; and in that none may stand
+abbrev pub group_step : List Typing → Typed-F (Bool → Typing) (Bool → StepType) → Bool → Typing
+group_step types (Typed-F.Aggregate function kind part) true = meet (of_kind kind) (aggregate_type function (option_map (λ type. type false) part))
+group_step types x may = type_step types (map-Typed (Bool → Typing) (Bool → StepType) Typing StepType (λ type. type may) (λ link. link may) x)
+
+-- a link, with the type of its part
+abbrev pub group_link : TypedLink-F (Bool → Typing) (Bool → StepType) → Bool → StepType
+group_link l may = record { op = l.op; part = l.part may }
+
+-- the type of an expression by whether an aggregate may stand in it; where none may, it is that at a row
+abbrev pub type_by : Bool → List Typing → Typed → Typing
+type_by may types e = fold-Typed (Bool → Typing) (Bool → StepType) (group_step types) group_link e may
+
+-- the type of an expression of a group
+abbrev pub type_in_group : List Typing → Typed → Typing
+type_in_group types e = type_by true types e
+
+-- each expression of a list has a type
+abbrev pub AreTyped : (Typed → Typing) → List Typed → Type 0
+AreTyped type [] = Unit {0}
+AreTyped type (e ∷ list) = IsTyped (type e) × AreTyped type list
+
+-- the expressions of a plan have types at the rows of its record sets: a condition that of truths, a limit that of integers; fields where there is no grouping, and else in the group; and the keys at a row followed by the values of the fields
+pub record PlanTyped (row : List Typing) (plan : Plan) : Type 0 where
+  pub filter : IfSome plan.filter (λ e. IsTyped (among is_truth (type_of row e)))
+  pub groups : AreTyped (type_of row) plan.groups
+  pub fields : plan.grouped ≡ false → AreTyped (type_of row) plan.fields
+  pub group_fields : AreTyped (type_in_group row) plan.fields
+  pub keys : AreTyped (type_of (row ++ map (type_in_group row) plan.fields)) plan.keys
+  pub limit : IfSome plan.limit (λ e. IsTyped (among is_integer (type_of [] e)))
+  pub offset : IfSome plan.offset (λ e. IsTyped (among is_integer (type_of [] e)))

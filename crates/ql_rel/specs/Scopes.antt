@@ -1,0 +1,80 @@
+-- What names mean.
+use Rattle.std.specs.Prelude.{ℕ, suc, Bool, true, false, ◌&&◌, if◌then◌else◌, List, [], ◌∷◌, ◌++◌, Option, Some, None, Ok}
+use Rattle.std.specs.Str.{bytes_eq}
+use Rattle.ql_value.specs.declared.refusal.TheConstants.{NO_COLUMN, AMBIGUOUS}
+use Rattle.ql_parse.specs.Typing.{Typing}
+use Rattle.ql_rel.specs.Answers.{Answer, refused_at}
+
+-- a place of a row: the name of its record set, that of its column, which an id has not, and the type of its values
+pub record Slot : Type 0 where
+  pub set : Option (List ℕ)
+  pub column : Option (List ℕ)
+  pub type : Typing
+
+-- what an expression sees: the places of the source row; the fields of a SELECT, which names are looked for among first; and the number of places before the fields
+pub record Scope : Type 0 where
+  pub seen : List Slot
+  pub fields : List Slot
+  pub width : ℕ
+
+-- it has this name
+abbrev pub is_called : Option (List ℕ) → List ℕ → Bool
+is_called None name = false
+is_called (Some own) name = bytes_eq own name
+
+-- it is of the record set, if one is named
+abbrev pub is_of_set : Option (List ℕ) → Slot → Bool
+is_of_set None s = true
+is_of_set (Some set) s = is_called s.set set
+
+-- it has no name
+abbrev pub is_nameless : Option (List ℕ) → Bool
+is_nameless None = true
+is_nameless (Some name) = false
+
+-- it is the column, or the id where none is named
+abbrev pub is_of_column : Option (List ℕ) → Slot → Bool
+is_of_column None s = is_nameless s.column
+is_of_column (Some column) s = is_called s.column column
+
+-- a place that a name may mean, by its number
+pub record Found : Type 0 where
+  pub at : ℕ
+  pub type : Typing
+
+-- the places that a name may mean; the first slot has this number
+abbrev pub found : Option (List ℕ) → Option (List ℕ) → ℕ → List Slot → List Found
+found set column at [] = []
+found set column at (s ∷ slots) =
+    if is_of_set set s && is_of_column column s then record { at = at; type = s.type } ∷ found set column (suc at) slots
+    else found set column (suc at) slots
+
+-- the one place of them: 2 where there is none, 3 where there are several
+abbrev pub the_one : List ℕ → List Found → Answer Found
+the_one name [] = refused_at NO_COLUMN name
+the_one name (f ∷ []) = Ok f
+the_one name (f ∷ g ∷ more) = refused_at AMBIGUOUS name
+
+-- a name as it is written: `c`, or `T.c`
+abbrev pub written : Option (List ℕ) → List ℕ → List ℕ
+written None column = column
+written (Some set) column = set ++ (46 ∷ column)
+
+-- the first list, or the second where that is empty
+abbrev pub first_some : List Found → List Found → List Found
+first_some [] more = more
+first_some (f ∷ fs) more = f ∷ fs
+
+-- what `c` or `T.c` means: a field whose name is so written, else a column of the row
+abbrev pub column_place : Scope → Option (List ℕ) → List ℕ → Answer Found
+column_place scope set column =
+    the_one (written set column)
+    (first_some (found None (Some (written set column)) scope.width scope.fields) (found set (Some column) 0 scope.seen))
+
+-- what `id()` means: the id of the only record set
+abbrev pub id_place : Scope → Answer Found
+id_place scope = the_one (105 ∷ 100 ∷ []) (found None None 0 scope.seen)
+
+-- what `id(T)` means: the id of the record set with that name
+abbrev pub id_place_of : Scope → List ℕ → Answer Found
+id_place_of scope set = the_one set (found (Some set) None 0 scope.seen)

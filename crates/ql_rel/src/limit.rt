@@ -1,0 +1,2 @@
+/// How many tables a database has at most.
+pub const TABLE_LIMIT: usize = 4096;
