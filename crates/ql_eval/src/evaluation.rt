@@ -92,7 +92,7 @@ fn linked(alloc: Global, link: &TypedLink, row: &[Value], left: Value) -> Result
         return Ok(left);
     }
     let right = evaluated(alloc, &link.part, row)?;
-    operate(alloc, link.op, &left, &right)
+    operate(alloc, link.op, left, &right)
 }
 
 /// Whether a value is equal to one of several parts.

@@ -1,29 +1,30 @@
--- An answer that is given a statement at a time.
+-- Statements that are carried out one at a time.
 use Rattle.std.proofs.Common.{◌≡◌, ℕ, ◌+◌, List, [], ◌∷◌, ◌++◌, length, take, Some, None, Ok, Err, ◌⊎◌, inl, inr, option_map, refl, sym, ap, ◌∙◌, append_assoc, append-nil, length-append, arith}
 use Rattle.std.proofs.lemmas.List.{take_all}
 use Rattle.std.proofs.Math.Seq.{take-append-add}
 use Rattle.ql_edge.specs.Told.{Told, with_shown, shown_of, warned_of, ShowsFront}
 use Rattle.ql_parse.specs.declared.statement.Statement.{Statement}
 use Rattle.ql_value.specs.declared.refusal.Refusal.{Refusal}
-use Rattle.ql_shell.specs.Meaning.{Answer, preceded, onward, meaning}
+use Rattle.ql_rel.specs.Meaning.{Meaning, preceded, onward, meaning}
+use Rattle.ql_shell.specs.Meaning.{Answer, answered, status_after}
 use Rattle.ql_edge.specs.declared.fault.DeviceFault.{DeviceFault}
 use Rattle.ql_edge.specs.declared.fault.DeviceFault.TheVariants as device
 use Rattle.ql_shell.specs.Cause.{status_of, stopped_by}
-use Rattle.ql_shell.specs.declared.step.StepFault.{StepFault}
-use Rattle.ql_shell.specs.declared.step.StepFault.TheVariants as step
+use Rattle.ql_shell.specs.declared.fault.StepFault.{StepFault}
+use Rattle.ql_shell.specs.declared.fault.StepFault.TheVariants as step
 use Rattle.ql_shell.specs.Pieces.{RunsOn}
 use Rattle.ql_shell.specs.Run.{Gives, IsFinal}
-use Rattle.ql_shell.specs.Effect.{effect}
-use Rattle.ql_shell.specs.Tables.{Table, Effect, text_of}
+use Rattle.ql_rel.specs.Effect.{effect}
+use Rattle.ql_rel.specs.Tables.{Table, Effect, text_of}
 use Rattle.ql_shell.specs.declared.status.Status.{Status}
 use Rattle.ql_shell.specs.declared.status.Status.TheVariants.{Done, Script, Refused, Usage, Fault, NoMemory}
 use Rattle.ql_shell.proofs.Pieces.{shown_none, shown_twice, front_longer}
 
-pub runs_begin : (all : Answer) (told : Told) → RunsOn all told told all
+pub runs_begin : (all : Meaning) (told : Told) → RunsOn all told told all
 runs_begin all told = record { done = []; told = sym (shown_none told); whole = refl }
 
 -- a statement was carried out
-pub runs_on : (all : Answer) (before now now' : Told) (number : ℕ) (items : List Statement) (s : Statement) (ss : List Statement) (tables after : List Table) (text : List ℕ) → items ≡ s ∷ ss
+pub runs_on : (all : Meaning) (before now now' : Told) (number : ℕ) (items : List Statement) (s : Statement) (ss : List Statement) (tables after : List Table) (text : List ℕ) → items ≡ s ∷ ss
     → RunsOn all before now (meaning number items tables) → effect s tables ≡ Ok (text, after) → now' ≡ with_shown text now → RunsOn all before now' (meaning (number + 1) ss after)
 runs_on all before now now' number items s ss tables after text e runs done shown =
     let h : RunsOn all before now (meaning number (s ∷ ss) tables) = rw e at runs in
@@ -31,27 +32,27 @@ runs_on all before now now' number items s ss tables after text e runs done show
     record {
       done = h.done ++ text;
       told = shown ∙ ap (with_shown text) h.told ∙ shown_twice h.done text before;
-      whole = h.whole ∙ ap (preceded h.done) there ∙ ap (λ t. record { text = t; status = (meaning (number + 1) ss after).status }) (sym (append_assoc h.done text (meaning (number + 1) ss after).text));
+      whole = h.whole ∙ ap (preceded h.done) there ∙ ap (λ t. record { text = t; ending = (meaning (number + 1) ss after).ending }) (sym (append_assoc h.done text (meaning (number + 1) ss after).text));
     }
 
 -- a statement was refused
-pub runs_refused : (all : Answer) (before now now' : Told) (number : ℕ) (s : Statement) (ss : List Statement) (tables : List Table) (r : Refusal)
-    → RunsOn all before now (meaning number (s ∷ ss) tables) → effect s tables ≡ Err r → now' ≡ now → Gives all (Refused number r) before now'
+pub runs_refused : (all : Meaning) (before now now' : Told) (number : ℕ) (s : Statement) (ss : List Statement) (tables : List Table) (r : Refusal)
+    → RunsOn all before now (meaning number (s ∷ ss) tables) → effect s tables ≡ Err r → now' ≡ now → Gives (answered all) (Refused number r) before now'
 runs_refused all before now now' number s ss tables r h refused same =
     let there : all ≡ preceded h.done (onward number (Err r) (λ after. meaning (number + 1) ss after)) = h.whole ∙ ap (λ (e : Effect). preceded h.done (onward number e (λ after. meaning (number + 1) ss after))) refused in
-    (ap (λ (a : Answer). a.status) (sym there), same ∙ h.told ∙ ap (λ t. with_shown t before) (sym (ap (λ (a : Answer). a.text) there ∙ append-nil h.done)))
+    (ap (λ (m : Meaning). status_after m.ending) (sym there), same ∙ h.told ∙ ap (λ t. with_shown t before) (sym (ap (λ (m : Meaning). m.text) there ∙ append-nil h.done)))
 
 -- the text of a statement stands in front of what is left
-text_in_front : (number : ℕ) (e : Effect) (more : List Table → Answer) → (rest : List ℕ) × ((onward number e more).text ≡ text_of e ++ rest)
+text_in_front : (number : ℕ) (e : Effect) (more : List Table → Meaning) → (rest : List ℕ) × ((onward number e more).text ≡ text_of e ++ rest)
 text_in_front number (Ok done) more = ((more done.1).text, refl)
 text_in_front number (Err r) more = ([], refl)
 
 -- a statement was cut off
-pub runs_cut : (all : Answer) (before now now' : Told) (number : ℕ) (s : Statement) (ss : List Statement) (tables : List Table)
+pub runs_cut : (all : Meaning) (before now now' : Told) (number : ℕ) (s : Statement) (ss : List Statement) (tables : List Table)
     → RunsOn all before now (meaning number (s ∷ ss) tables) → ShowsFront (text_of (effect s tables)) now now' → ShowsFront all.text before now'
 runs_cut all before now now' number s ss tables h part =
     let rest = text_in_front number (effect s tables) (λ after. meaning (number + 1) ss after) in
-    let whole : all.text ≡ h.done ++ (text_of (effect s tables) ++ rest.0) = ap (λ (a : Answer). a.text) h.whole ∙ ap (λ t. h.done ++ t) rest.1 in
+    let whole : all.text ≡ h.done ++ (text_of (effect s tables) ++ rest.0) = ap (λ (m : Meaning). m.text) h.whole ∙ ap (λ t. h.done ++ t) rest.1 in
     let longer = front_longer (text_of (effect s tables)) rest.0 now now' part in
     record {
       count = length h.done + longer.count;
@@ -61,9 +62,9 @@ runs_cut all before now now' number s ss tables h part =
     }
 
 -- every statement was carried out
-pub runs_end : (all : Answer) (before now : Told) (number : ℕ) (tables : List Table) → RunsOn all before now (meaning number [] tables) → Gives all Done before now
+pub runs_end : (all : Meaning) (before now : Told) (number : ℕ) (tables : List Table) → RunsOn all before now (meaning number [] tables) → Gives (answered all) Done before now
 runs_end all before now number tables h =
-    (ap (λ (a : Answer). a.status) (sym h.whole), h.told ∙ ap (λ t. with_shown t before) (sym (ap (λ (a : Answer). a.text) h.whole ∙ append-nil h.done)))
+    (ap (λ (m : Meaning). status_after m.ending) (sym h.whole), h.told ∙ ap (λ t. with_shown t before) (sym (ap (λ (m : Meaning). m.text) h.whole ∙ append-nil h.done)))
 
 -- a fault or want of memory leaves a front of an answer's text
 pub gives_cut : (all : Answer) (fault : DeviceFault) (before now : Told) → ShowsFront all.text before now → Gives all (status_of fault) before now
@@ -112,15 +113,15 @@ final_or_not (Refused _ _) = inl tt
 final_or_not (Usage _) = inl tt
 
 -- a statement stopped the run
-pub runs_stopped : (all : Answer) (before now now' : Told) (number : ℕ) (items : List Statement) (s : Statement) (ss : List Statement) (tables : List Table) (fault : StepFault) → items ≡ s ∷ ss
+pub runs_stopped : (all : Meaning) (before now now' : Told) (number : ℕ) (items : List Statement) (s : Statement) (ss : List Statement) (tables : List Table) (fault : StepFault) → items ≡ s ∷ ss
     → RunsOn all before now (meaning number items tables)
     → ((r : Refusal) → fault ≡ step.Refused r → (effect s tables ≡ Err r) × (now' ≡ now))
     → ((f : DeviceFault) → fault ≡ step.Device f → ShowsFront (text_of (effect s tables)) now now')
-    → Gives all (stopped_by number fault) before now'
+    → Gives (answered all) (stopped_by number fault) before now'
 runs_stopped all before now now' number items s ss tables (step.Refused r) e runs refused cut =
     let h : RunsOn all before now (meaning number (s ∷ ss) tables) = rw e at runs in
     let done = refused r refl in
     runs_refused all before now now' number s ss tables r h done.0 done.1
 runs_stopped all before now now' number items s ss tables (step.Device f) e runs refused cut =
     let h : RunsOn all before now (meaning number (s ∷ ss) tables) = rw e at runs in
-    gives_cut all f before now' (runs_cut all before now now' number s ss tables h (cut f refl))
+    gives_cut (answered all) f before now' (runs_cut all before now now' number s ss tables h (cut f refl))

@@ -1,5 +1,7 @@
 pub mod Examples
+pub mod NoTables
 pub mod Giving
+pub mod Lines
 pub mod Meanings
 pub mod Numbers
 pub mod Outcomes

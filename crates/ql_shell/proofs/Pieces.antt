@@ -6,7 +6,7 @@ use Rattle.std.proofs.Math.Seq.{take-append-add}
 use Rattle.std.proofs.lemmas.List.Concat.{flat_map-append}
 use Rattle.ql_edge.specs.Told.{Told, with_shown, ShowsFront}
 use Rattle.ql_shell.specs.Pieces.{HoldsBack}
-use Rattle.ql_shell.specs.Tables.{row_text, lines}
+use Rattle.ql_rel.specs.Tables.{row_text, lines}
 
 pub shown_none : (told : Told) → with_shown [] told ≡ told
 shown_none None = refl

@@ -7,7 +7,7 @@ use Rattle.std.proofs.lemmas.List.Sums.{fails_before_first}
 use Rattle.std.proofs.lemmas.Bool.Decides.{nat_tests}
 use Rattle.std.proofs.lemmas.List.Concat.{flat_map-append}
 use Rattle.ql_shell.specs.Plain.{plain}
-use Rattle.ql_shell.specs.Tables.{is_named, with_rows}
+use Rattle.ql_rel.specs.Tables.{is_named, with_rows}
 use Rattle.ql_shell.specs.declared.tables.Table.{Table}
 
 abbrev pub named : List ℕ → Table → Bool

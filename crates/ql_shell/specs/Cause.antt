@@ -12,8 +12,8 @@ use Rattle.ql_shell.specs.Comes.{place_of}
 use Rattle.ql_shell.specs.declared.status.ScriptFault.TheVariants as fault
 use Rattle.ql_shell.specs.declared.status.Status.{Status}
 use Rattle.ql_shell.specs.declared.status.Status.TheVariants as status
-use Rattle.ql_shell.specs.declared.step.StepFault.{StepFault}
-use Rattle.ql_shell.specs.declared.step.StepFault.TheVariants as step
+use Rattle.ql_shell.specs.declared.fault.StepFault.{StepFault}
+use Rattle.ql_shell.specs.declared.fault.StepFault.TheVariants as step
 
 -- the status of a run that a device's fault ends
 abbrev pub status_of : DeviceFault → Status

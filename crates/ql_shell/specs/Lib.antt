@@ -1,12 +1,10 @@
+pub mod Answers
 pub mod Cause
 pub mod Code
 pub mod Comes
-pub mod Effect
-pub mod Forms
 pub mod Line
 pub mod Meaning
 pub mod Plain
 pub mod Pieces
 pub mod Run
-pub mod Tables
 pub mod Words

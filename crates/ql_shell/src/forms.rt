@@ -1,10 +1,11 @@
 ghost use Rattle.std.specs.Prelude.{◌≡◌, ◌≢◌, List, MatchOption, IfOk, None, Some, option_map};
 ghost use Rattle.ql_parse.specs.declared.syntax.SetSource.{out-SetSource};
-ghost use Rattle.ql_shell.specs.Forms as spec;
+ghost use Rattle.ql_rel.specs.Forms as spec;
 
+use crate::aggregate::any_field_calls_aggregate;
 use ql_edge::{Name, Names, NoMemory, Numbers};
 use ql_parse::{
-    ColumnDef, ColumnDefs, Expr, Exprs, FromSet, FromSets, RowSource, Select, SetSource,
+    ColumnDef, ColumnDefs, Expr, Exprs, FromSet, FromSets, RowSource, Select, SetSource, Statement,
 };
 use ql_value::Kind;
 use std::alloc::Global;
@@ -156,5 +157,27 @@ pub fn shown_table(select: &Select) -> Option<&Name>
         sole_table(&select.sets)
     } else {
         None
+    }
+}
+
+/// Whether nothing stands in a SELECT but fields, and no aggregate in them.
+fn is_of_fields(select: &Select) -> bool
+    ensures { result ≡ spec.is_of_fields select.now }
+{
+    !select.distinct
+        && select.sets.len() == 0
+        && select.join.is_none()
+        && select.groups.len() == 0
+        && is_of_all_rows(select)
+        && !any_field_calls_aggregate(&select.fields)
+}
+
+/// Whether a statement is a SELECT of expressions alone.
+pub fn is_of_expressions(statement: &Statement) -> bool
+    ensures { result ≡ spec.is_of_expressions statement.now }
+{
+    match statement {
+        Statement::Query(select) => is_of_fields(select),
+        _ => false,
     }
 }

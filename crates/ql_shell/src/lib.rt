@@ -1,6 +1,9 @@
 //! Carries out a script: from the words and the bytes to what is shown, warned and answered.
 #![tactic(auto)]
 
+mod aggregate;
+mod expressions;
+mod fault;
 mod forms;
 mod line;
 mod parsing;

@@ -2,7 +2,7 @@ ghost use Rattle.std.specs.Prelude.{◌≡◌, ◌++◌, OnOk, OnErr, flat_map};
 ghost use Rattle.ql_edge.specs.Cause.{IsCaused};
 ghost use Rattle.ql_edge.specs.Told.{with_shown, ShowsFront};
 ghost use Rattle.ql_shell.specs.Pieces.{HoldsBack};
-ghost use Rattle.ql_shell.specs.Tables.{row_text, lines};
+ghost use Rattle.ql_rel.specs.Tables.{row_text, lines};
 
 use ql_edge::{Bytes, DeviceFault, NoMemory, Numbers, Shows, show_all};
 use ql_value::{Kind, Value, print_value};

@@ -5,7 +5,8 @@ ghost use Rattle.ql_edge.specs.Told.{shown_of, warned_of};
 ghost use Rattle.ql_parse.specs.declared.statement.Statement.{Statement};
 ghost use Rattle.ql_shell.specs.Cause.{IsCausedReading, IsCausedStatus, stopped_by};
 ghost use Rattle.ql_shell.specs.Comes.{Comes};
-ghost use Rattle.ql_shell.specs.Meaning.{Answer, answer_of, meaning, Means};
+ghost use Rattle.ql_rel.specs.Meaning.{meaning};
+ghost use Rattle.ql_shell.specs.Meaning.{Answer, answer_of, answered, Means};
 ghost use Rattle.ql_shell.specs.Run.{IsFinal, Gives, Warns, IsFrontShown, IsShown, IsRefusedWhole, EndsEarly, EndsScript, EndsStatements, IsScript, TellsScript, Takes, TakesAll};
 ghost use Rattle.ql_shell.specs.Words.{command_of};
 ghost use Rattle.ql_shell.specs.declared.status.ScriptFault.{ScriptFault};
@@ -13,11 +14,12 @@ ghost use Rattle.ql_shell.specs.declared.status.ScriptFault.TheVariants as fault
 ghost use Rattle.ql_shell.specs.declared.status.Status.TheVariants as ended;
 ghost use Rattle.ql_shell.specs.declared.words.Command.TheVariants as asked;
 
+use crate::fault::StepFault;
 use crate::line::warn;
 use crate::parsing::read_statements;
 use crate::reading::read_script;
 use crate::status::{ScriptFault, Status};
-use crate::step::{StepFault, step};
+use crate::step::step;
 use crate::tables::Tables;
 use crate::words::{Command, read_words};
 use ql_edge::{Bytes, Machine, Shows};
@@ -39,7 +41,7 @@ fn stopped(statement: u64, fault: StepFault) -> Status
 
 /// Carries out statements in turn, from no tables, up to the first that is refused.
 fn carry_out<M: Shows>(alloc: Global, machine: &mut M, statements: Statements) -> Status
-    ensures gives { Gives (meaning 1 statements []) result (M.told machine.old) (M.told machine.new) }
+    ensures gives { Gives (answered (meaning 1 statements [])) result (M.told machine.old) (M.told machine.new) }
     ensures warned { warned_of (M.told machine.new) ≡ warned_of (M.told machine.old) }
     ensures ends { EndsStatements result }
     ensures left { M.left machine.new ≡ M.left machine.old }

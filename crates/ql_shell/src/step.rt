@@ -1,71 +1,24 @@
 ghost use Rattle.std.specs.Prelude.{◌≡◌, ℕ, List, [], ◌⊎◌, Ok, Err, IfOk, OnOk};
 ghost use Rattle.ql_edge.specs.Told.{with_shown, ShowsFront};
 ghost use Rattle.ql_shell.specs.Cause.{IsCausedStep};
-ghost use Rattle.ql_shell.specs.Effect as spec;
-ghost use Rattle.ql_shell.specs.Effect.{effect};
-ghost use Rattle.ql_shell.specs.Forms as form;
-ghost use Rattle.ql_shell.specs.Tables.{text_of};
-ghost use Rattle.ql_shell.specs.declared.step.StepFault.TheVariants as step;
+ghost use Rattle.ql_rel.specs.Effect as spec;
+ghost use Rattle.ql_rel.specs.Effect.{effect};
+ghost use Rattle.ql_rel.specs.Forms as form;
+ghost use Rattle.ql_rel.specs.Rows.{expressions_text, text_if};
+ghost use Rattle.ql_rel.specs.Tables.{text_of};
 ghost use Rattle.ql_edge.specs.declared.fault.DeviceFault.TheVariants as device;
+ghost use Rattle.ql_shell.specs.declared.fault.StepFault.TheVariants as step;
 
-use crate::forms::{inserted_numbers, is_internal, shown_table, sole_column};
+use crate::expressions::expressions_text;
+use crate::fault::{StepFault, refused, refused_at};
+use crate::forms::{inserted_numbers, is_internal, is_of_expressions, shown_table, sole_column};
 use crate::rows::show_rows;
-use crate::tables::{TABLE_LIMIT, Tables};
-use ql_edge::{Bytes, DeviceFault, Name, Names, NoMemory, Shows};
+use crate::tables::Tables;
+use ql_edge::{DeviceFault, Name, Names, Shows, show_all};
 use ql_parse::{ColumnDefs, RowSource, Select, Statement};
+use ql_rel::TABLE_LIMIT;
 use ql_value::{EXISTS, LATER, NO_TABLE, Refusal};
 use std::alloc::Global;
-
-/// Why a statement was not carried out.
-#[derive(Debug, Drop)]
-pub enum StepFault {
-    Refused(Refusal),
-    Device(DeviceFault),
-}
-
-impl From<DeviceFault> for StepFault {
-    ghost from_gives = { λ fault s. s ≡ step.Device fault };
-
-    fn from(fault: DeviceFault) -> StepFault {
-        StepFault::Device(fault)
-    }
-}
-
-impl From<NoMemory> for StepFault {
-    ghost from_gives = { λ _ s. s ≡ step.Device device.NoMemory };
-
-    fn from(_: NoMemory) -> StepFault {
-        StepFault::Device(DeviceFault::NoMemory)
-    }
-}
-
-fn later(alloc: Global) -> StepFault
-    ensures { result ≡ step.Refused (record { number = LATER; name = [] }) }
-{
-    StepFault::Refused(Refusal {
-        number: LATER,
-        name: Bytes::new(alloc),
-    })
-}
-
-fn copy_name(alloc: Global, name: &Name) -> Result<Name, NoMemory>
-    ensures { IfOk result (λ copy. copy ≡ name.now) }
-{
-    Name::new(alloc, name.as_slice())
-}
-
-/// A refusal that names a table, or want of memory for it.
-fn refused(alloc: Global, number: u8, name: &Name) -> StepFault
-    ensures { (result ≡ step.Refused (record { number = number; name = name.now })) ⊎ (result ≡ step.Device device.NoMemory) }
-{
-    match copy_name(alloc, name) {
-        Ok(name) => StepFault::Refused(Refusal {
-            number,
-            name: name.into_bytes(),
-        }),
-        Err(_) => StepFault::Device(DeviceFault::NoMemory),
-    }
-}
 
 fn create(
     alloc: Global,
@@ -78,15 +31,17 @@ fn create(
     ensures fault { (f : DeviceFault) → result ≡ Err (step.Device f) → f ≡ device.NoMemory }
 {
     let Some(column) = sole_column(columns) else {
-        return Err(later(alloc));
+        return Err(refused(alloc, LATER));
     };
     if is_internal(name) || tables.len() >= TABLE_LIMIT {
-        return Err(later(alloc));
+        return Err(refused(alloc, LATER));
     }
     if tables.has(name) {
-        return Err(refused(alloc, EXISTS, name));
+        return Err(refused_at(alloc, EXISTS, name));
     }
-    tables.create(copy_name(alloc, name)?, copy_name(alloc, column)?)?;
+    let name = Name::new(alloc, name.as_slice())?;
+    let column = Name::new(alloc, column.as_slice())?;
+    tables.create(name, column)?;
     Ok(())
 }
 
@@ -102,13 +57,13 @@ fn insert(
     ensures fault { (f : DeviceFault) → result ≡ Err (step.Device f) → f ≡ device.NoMemory }
 {
     let Some(numbers) = inserted_numbers(alloc, columns, source)? else {
-        return Err(later(alloc));
+        return Err(refused(alloc, LATER));
     };
     if is_internal(name) {
-        return Err(later(alloc));
+        return Err(refused(alloc, LATER));
     }
     if !tables.insert(name, numbers)? {
-        return Err(refused(alloc, NO_TABLE, name));
+        return Err(refused_at(alloc, NO_TABLE, name));
     }
     Ok(())
 }
@@ -128,7 +83,7 @@ fn show<M: Shows>(
     ensures cause { IsCausedStep result (M.faults machine.old) (M.faults machine.new) }
 {
     let Some(rows) = tables.rows(name) else {
-        return Err(refused(alloc, NO_TABLE, name));
+        return Err(refused_at(alloc, NO_TABLE, name));
     };
     show_rows(alloc, machine, rows)?;
     Ok(())
@@ -149,8 +104,56 @@ fn select<M: Shows>(
 {
     match shown_table(query) {
         Some(name) => show(alloc, tables, machine, name),
-        None => Err(later(alloc)),
+        None => Err(refused(alloc, LATER)),
     }
+}
+
+/// Carries out a statement over tables of numbers.
+fn step_on_tables<M: Shows>(
+    alloc: Global,
+    tables: &mut Tables,
+    machine: &mut M,
+    statement: &Statement,
+) -> Result<(), StepFault>
+    ensures done { OnOk result ((text : List ℕ) × (spec.on_tables statement.now tables.old ≡ Ok (text, tables.new)) × (M.told machine.new ≡ with_shown text (M.told machine.old))) }
+    ensures refused { (r : Refusal) → result ≡ Err (step.Refused r) → (spec.on_tables statement.now tables.old ≡ Err r) × (M.told machine.new ≡ M.told machine.old) }
+    ensures fault { (f : DeviceFault) → result ≡ Err (step.Device f) → ShowsFront (text_of (spec.on_tables statement.now tables.old)) (M.told machine.old) (M.told machine.new) }
+    ensures left { M.left machine.new ≡ M.left machine.old }
+    ensures fixed { M.fixed machine.new ≡ M.fixed machine.old }
+    ensures cause { IsCausedStep result (M.faults machine.old) (M.faults machine.new) }
+{
+    match statement {
+        Statement::CreateTable {
+            quiet: false,
+            table,
+            columns,
+        } => create(alloc, tables, table, columns),
+        Statement::Insert {
+            table,
+            columns,
+            source,
+        } => insert(alloc, tables, table, columns, source),
+        Statement::Query(query) => select(alloc, tables, machine, query),
+        _ => Err(refused(alloc, LATER)),
+    }
+}
+
+/// Shows the values of a SELECT of expressions.
+fn show_expressions<M: Shows>(
+    alloc: Global,
+    machine: &mut M,
+    statement: &Statement,
+) -> Result<(), StepFault>
+    ensures done { OnOk result ((text : List ℕ) × (expressions_text statement.now ≡ Ok text) × (M.told machine.new ≡ with_shown text (M.told machine.old))) }
+    ensures refused { (r : Refusal) → result ≡ Err (step.Refused r) → (expressions_text statement.now ≡ Err r) × (M.told machine.new ≡ M.told machine.old) }
+    ensures fault { (f : DeviceFault) → result ≡ Err (step.Device f) → ShowsFront (text_if (expressions_text statement.now)) (M.told machine.old) (M.told machine.new) }
+    ensures left { M.left machine.new ≡ M.left machine.old }
+    ensures fixed { M.fixed machine.new ≡ M.fixed machine.old }
+    ensures cause { IsCausedStep result (M.faults machine.old) (M.faults machine.new) }
+{
+    let text = expressions_text(alloc, statement)?;
+    show_all(machine, text.as_slice())?;
+    Ok(())
 }
 
 /// Carries out a statement, and shows its text.
@@ -170,18 +173,9 @@ pub fn step<M: Shows>(
     ensures fixed { M.fixed machine.new ≡ M.fixed machine.old }
     ensures cause { IsCausedStep result (M.faults machine.old) (M.faults machine.new) }
 {
-    match statement {
-        Statement::CreateTable {
-            quiet: false,
-            table,
-            columns,
-        } => create(alloc, tables, table, columns),
-        Statement::Insert {
-            table,
-            columns,
-            source,
-        } => insert(alloc, tables, table, columns, source),
-        Statement::Query(query) => select(alloc, tables, machine, query),
-        _ => Err(later(alloc)),
+    if is_of_expressions(statement) {
+        show_expressions(alloc, machine, statement)
+    } else {
+        step_on_tables(alloc, tables, machine, statement)
     }
 }

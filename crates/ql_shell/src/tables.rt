@@ -1,14 +1,11 @@
 ghost use Rattle.std.specs.Prelude.{◌≡◌, [], ◌∷◌, ◌++◌, false, None, Some, IfOk, OnOk, MatchBool, MatchOption, length, is_some, find, position, flat_map};
 ghost use Rattle.std.specs.Str.{bytes_eq};
-ghost use Rattle.ql_shell.specs.Tables as value;
-ghost use Rattle.ql_shell.specs.Tables.{is_named, with_rows};
+ghost use Rattle.ql_rel.specs.Tables as value;
+ghost use Rattle.ql_rel.specs.Tables.{is_named, with_rows};
 
 use ql_edge::{Items, Name, NoMemory, Numbers};
 use std::alloc::Global;
 use std::marker::Model;
-
-/// How many tables there are at most.
-pub const TABLE_LIMIT: usize = 4096;
 
 /// The rows of a table, in the pieces in which they came.
 #[derive(Debug, Drop)]
@@ -27,7 +24,7 @@ pub struct Tables {
 
 impl Model for Tables {
     ghost use Rattle.std.specs.Prelude.{List, map};
-    ghost use Rattle.ql_shell.specs.Tables.{Table};
+    ghost use Rattle.ql_rel.specs.Tables.{Table};
 
     ghost Value = { List Table };
 

@@ -50,7 +50,7 @@ const ROWS: [Row; 13] = [
         status: 1,
     },
     Row {
-        script: b"SELECT 1;",
+        script: b"SELECT * FROM t WHERE nosuch;",
         shown: b"",
         warned: b"ql: statement 1: 10 Later\n",
         status: 1,
@@ -99,6 +99,99 @@ const ROWS: [Row; 13] = [
     },
 ];
 
+const EXPRESSIONS: [Row; 15] = [
+    Row {
+        script: b"SELECT -7 / 2, -7 % 2, -9223372036854775808 / -1;",
+        shown: b"-3, -1, -9223372036854775808\n",
+        warned: b"",
+        status: 0,
+    },
+    Row {
+        script: b"SELECT int8(127) + 1, uint8(0) - 1;",
+        shown: b"-128, 255\n",
+        warned: b"",
+        status: 0,
+    },
+    Row {
+        script: b"SELECT 18446744073709551615 + 1;",
+        shown: b"0\n",
+        warned: b"",
+        status: 0,
+    },
+    Row {
+        script: b"SELECT NULL && false, NULL || true, NULL == NULL;",
+        shown: b"false, true, <nil>\n",
+        warned: b"",
+        status: 0,
+    },
+    Row {
+        script: b"SELECT int8(100) + 100, uint8(1) << 8, int8(-128) >> 9;",
+        shown: b"-56, 0, -1\n",
+        warned: b"",
+        status: 0,
+    },
+    Row {
+        script: b"SELECT coalesce(NULL, 3), 5 NOT IN (1, NULL);",
+        shown: b"3, <nil>\n",
+        warned: b"",
+        status: 0,
+    },
+    Row {
+        script: b"SELECT \"a\" + \"b\" AS c, blob(\"\\x80\"), len(\"abc\");",
+        shown: b"\"ab\", blob(\"\\x80\"), 3\n",
+        warned: b"",
+        status: 0,
+    },
+    Row {
+        script: b"SELECT 1 / 0;",
+        shown: b"",
+        warned: b"ql: statement 1: 20 Divide\n",
+        status: 1,
+    },
+    Row {
+        script: b"SELECT uint8(300);",
+        shown: b"",
+        warned: b"ql: statement 1: 7 ConstantRange\n",
+        status: 1,
+    },
+    Row {
+        script: b"SELECT int8(1) + (100 + 100);",
+        shown: b"",
+        warned: b"ql: statement 1: 21 Range\n",
+        status: 1,
+    },
+    Row {
+        script: b"SELECT 1 << -1;",
+        shown: b"",
+        warned: b"ql: statement 1: 22 NegativeCount\n",
+        status: 1,
+    },
+    Row {
+        script: b"SELECT 1; SELECT (1 + \"a\") + nosuch;",
+        shown: b"1\n",
+        warned: b"ql: statement 2: 5 Type\n",
+        status: 1,
+    },
+    Row {
+        script: b"SELECT count(), nosuch;",
+        shown: b"",
+        warned: b"ql: statement 1: 10 Later\n",
+        status: 1,
+    },
+    Row {
+        script: b"SELECT *;",
+        shown: b"",
+        warned: b"ql: statement 1: 6 Count\n",
+        status: 1,
+    },
+    Row {
+        script: b"SELECT id();",
+        shown: b"",
+        warned: b"ql: statement 1: 2 NoColumn id\n",
+        status: 1,
+    },
+];
+
 /// The machine after a run without words, and the exit status.
 fn after(alloc: Global, machine: MemMachine) -> (MemMachine, u8) {
     let (machine, status) = run(alloc, &Vec::new(alloc), machine);
@@ -116,6 +209,14 @@ fn carry_out(rt: &(impl Abort + Alloc<A = Global>), row: &Row) -> Result<(), NoM
 #[test]
 fn carries_out_scripts(rt: HostRuntime) -> Result<(), Fail> {
     for row in &ROWS {
+        carry_out(&rt, row)?;
+    }
+    Ok(())
+}
+
+#[test]
+fn evaluates_expressions(rt: HostRuntime) -> Result<(), Fail> {
+    for row in &EXPRESSIONS {
         carry_out(&rt, row)?;
     }
     Ok(())
@@ -225,7 +326,12 @@ fn warned(alloc: Global, script: &Bytes) -> Result<Bytes, NoMemory> {
 #[test]
 fn opens_200_brackets_at_most(rt: HostRuntime) -> Result<(), Fail> {
     let most = warned(rt.alloc(), &nested(rt.alloc(), 200)?)?;
-    assert_eq!(rt; most.as_slice(), b"ql: statement 1: 10 Later\n".as_slice());
+    assert_eq!(rt; most.as_slice(), b"".as_slice());
+    let (machine, _) = after(
+        rt.alloc(),
+        sound(rt.alloc(), nested(rt.alloc(), 200)?.as_slice())?,
+    );
+    assert_eq!(rt; machine.shown().as_slice(), b"1\n".as_slice());
     let more = warned(rt.alloc(), &nested(rt.alloc(), 201)?)?;
     assert_eq!(rt; more.as_slice(), b"ql: byte 207: too nested\n".as_slice());
     Ok(())

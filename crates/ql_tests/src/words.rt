@@ -19,21 +19,21 @@ struct Row {
 const ROWS: [Row; 9] = [
     Row {
         words: &["SELECT 1"],
-        shown: b"",
-        warned: b"ql: statement 1: 10 Later\n",
-        status: 1,
+        shown: b"1\n",
+        warned: b"",
+        status: 0,
     },
     Row {
         words: &["SELECT", "1"],
-        shown: b"",
-        warned: b"ql: statement 1: 10 Later\n",
-        status: 1,
+        shown: b"1\n",
+        warned: b"",
+        status: 0,
     },
     Row {
         words: &["--", "SELECT", "1"],
-        shown: b"",
-        warned: b"ql: statement 1: 10 Later\n",
-        status: 1,
+        shown: b"1\n",
+        warned: b"",
+        status: 0,
     },
     Row {
         words: &[

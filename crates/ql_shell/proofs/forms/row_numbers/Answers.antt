@@ -1,5 +1,5 @@
 use Rattle.std.proofs.Common.{◌<◌, length, Some, ap, sym, ◌∙◌, arith}
-use Rattle.ql_shell.specs.Forms.{row_number}
+use Rattle.ql_rel.specs.Forms.{row_number}
 use Rattle.ql_shell.proofs.Numbers.{row_more, row_none}
 use Rattle.ql_shell.proofs.forms.row_numbers.Goals as goal
 

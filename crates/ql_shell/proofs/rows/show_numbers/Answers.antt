@@ -1,5 +1,5 @@
 use Rattle.std.proofs.Common.{◌<◌, length, refl, ◌∙◌, arith}
-use Rattle.ql_shell.specs.Tables.{row_text}
+use Rattle.ql_rel.specs.Tables.{row_text}
 use Rattle.ql_shell.proofs.Pieces.{on_err, turn_holds, turn_fails}
 use Rattle.ql_shell.proofs.rows.show_numbers.Goals as goal
 

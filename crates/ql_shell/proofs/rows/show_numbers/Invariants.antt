@@ -1,6 +1,6 @@
 use Rattle.std.proofs.Common.{◌≡◌, ◌++◌, take}
 use Rattle.ql_shell.specs.Pieces.{HoldsBack}
-use Rattle.ql_shell.specs.Tables.{lines}
+use Rattle.ql_rel.specs.Tables.{lines}
 use Rattle.ql_shell.proofs.rows.show_numbers.Given as goal
 
 abbrev pub invariant-loop-number : goal.invariant-loop-number

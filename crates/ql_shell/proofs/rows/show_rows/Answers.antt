@@ -2,7 +2,7 @@ use Rattle.std.proofs.Common.{◌≡◌, ◌<◌, ◌≤◌, [], length, take, a
 use Rattle.std.specs.List.{flat_map}
 use Rattle.std.proofs.lemmas.List.{take_all}
 use Rattle.ql_edge.specs.Told.{ShowsFront}
-use Rattle.ql_shell.specs.Tables.{lines}
+use Rattle.ql_rel.specs.Tables.{lines}
 use Rattle.ql_shell.proofs.Pieces.{on_err, turn_holds, turn_fails, last_shown, last_fails, lines_of_pieces}
 use Rattle.ql_shell.proofs.rows.show_rows.Goals as goal
 

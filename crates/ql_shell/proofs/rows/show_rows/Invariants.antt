@@ -1,7 +1,7 @@
 use Rattle.std.proofs.Common.{◌≡◌, take}
 use Rattle.std.specs.List.{flat_map}
 use Rattle.ql_shell.specs.Pieces.{HoldsBack}
-use Rattle.ql_shell.specs.Tables.{lines}
+use Rattle.ql_rel.specs.Tables.{lines}
 use Rattle.ql_shell.proofs.rows.show_rows.Given as goal
 
 abbrev pub invariant-loop-piece : goal.invariant-loop-piece

@@ -1,5 +1,5 @@
 use Rattle.std.proofs.Common.{◌+◌, [], Err, length, ap, ◌∙◌, arith}
-use Rattle.ql_shell.specs.Meaning.{meaning}
+use Rattle.ql_rel.specs.Meaning.{meaning}
 use Rattle.ql_shell.proofs.Giving.{runs_on, runs_stopped}
 use Rattle.ql_shell.proofs.script_run.carry_out.Goals as goal
 

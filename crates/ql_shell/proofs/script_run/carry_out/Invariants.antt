@@ -1,6 +1,6 @@
 use Rattle.std.proofs.Common.{◌≡◌, ◌+◌, ◌<◌, ◌^◌, [], length}
 use Rattle.std.specs.Vec.Iter.{into_iter_items, into_iter_len}
-use Rattle.ql_shell.specs.Meaning.{meaning}
+use Rattle.ql_rel.specs.Meaning.{meaning}
 use Rattle.ql_shell.specs.Pieces.{RunsOn}
 use Rattle.ql_shell.proofs.script_run.carry_out.Given as goal
 

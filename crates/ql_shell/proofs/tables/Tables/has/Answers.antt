@@ -1,7 +1,7 @@
 use Rattle.std.proofs.Common.{ap, ◌∙◌}
 use Rattle.std.specs.List.{find, position}
 use Rattle.std.specs.Option.{is_some}
-use Rattle.ql_shell.specs.Tables.{is_named}
+use Rattle.ql_rel.specs.Tables.{is_named}
 use Rattle.ql_shell.proofs.Places.{named, has_found}
 use Rattle.ql_shell.proofs.tables.Tables.has.Goals as goal
 

@@ -1,6 +1,6 @@
 use Rattle.std.proofs.Common.{sym, ap, ◌∙◌}
 use Rattle.std.specs.List.{position}
-use Rattle.ql_shell.specs.Tables.{with_rows}
+use Rattle.ql_rel.specs.Tables.{with_rows}
 use Rattle.ql_shell.proofs.Places.{named, rows_added, no_rows_added, piece_added}
 use Rattle.ql_shell.proofs.tables.Tables.insert.Goals as goal
 

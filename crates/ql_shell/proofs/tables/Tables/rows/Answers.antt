@@ -1,7 +1,7 @@
 use Rattle.std.proofs.Common.{sym, ap, ◌∙◌}
 use Rattle.std.specs.List.{find, position, flat_map}
 use Rattle.ql_shell.specs.Plain.{plain}
-use Rattle.ql_shell.specs.Tables.{is_named}
+use Rattle.ql_rel.specs.Tables.{is_named}
 use Rattle.ql_shell.proofs.Places.{named, found, not_found}
 use Rattle.ql_shell.proofs.tables.Tables.rows.Goals as goal
 
