@@ -1,11 +1,10 @@
 #!/usr/bin/env python3
 """Times 20,000 SELECTs of expressions on the built program, and prints the figures. Over a second ends with status 1."""
 import pathlib
-import resource
 import subprocess
 import sys
-import tempfile
-import time
+
+from timed import fastest
 
 TOP = pathlib.Path(__file__).resolve().parent.parent
 STATEMENT = b'SELECT 1 + 2 * 3 - 4, "a" + "b", 5 IN (1, 2, 5);\n'
@@ -17,20 +16,8 @@ RUNS = 5
 
 def main():
     subprocess.run([TOP / "ql"], stdin=subprocess.DEVNULL, check=True)
-    best = None
-    with tempfile.TemporaryFile() as source, tempfile.TemporaryFile() as target:
-        source.write(STATEMENT * COUNT)
-        for _ in range(RUNS):
-            source.seek(0)
-            target.seek(0)
-            target.truncate()
-            start = time.perf_counter()
-            subprocess.run([TOP / "crates/ql/out/ql"], stdin=source, stdout=target, check=True)
-            taken = time.perf_counter() - start
-            best = taken if best is None else min(best, taken)
-        target.seek(0)
-        right = target.read() == ROW * COUNT
-    peak = resource.getrusage(resource.RUSAGE_CHILDREN).ru_maxrss / 1024
+    best, shown, peak = fastest(TOP / "crates/ql/out/ql", STATEMENT * COUNT, RUNS)
+    right = shown == ROW * COUNT
     print(f"{COUNT:,} statements, {'each with its row' if right else 'WITH OTHER ROWS'}")
     print(f"time {best:.3f} s (best of {RUNS}), peak memory {peak:.0f} MB{'   OVER THE LIMIT' if best > SECONDS else ''}")
     return 0 if right and best <= SECONDS else 1

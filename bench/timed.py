@@ -1,9 +1,10 @@
-"""Runs a program that writes its times in microseconds to standard error."""
+"""Runs a program and measures it."""
 import os
 import resource
 import subprocess
 import sys
 import tempfile
+import time
 
 STACK = 8 << 20
 
@@ -13,7 +14,8 @@ def limit_stack():
 
 
 def run(program, data):
-    """What the program prints, the seconds that it writes, and the peak memory in MB. It has a stack of 8 MB."""
+    """What a program prints that writes its times in microseconds to standard error, those times in seconds, and the peak
+    memory in MB. It has a stack of 8 MB."""
     with tempfile.TemporaryFile() as script:
         script.write(data)
         script.seek(0)
@@ -25,4 +27,25 @@ def run(program, data):
         child.returncode = status
     if status != 0:
         sys.exit(f"the program ended with status {status}: {err.decode()}")
-    return out.decode().strip(), [int(time) / 1e6 for time in err.split()[:-1]], usage.ru_maxrss / 1024
+    return out.decode().strip(), [int(micros) / 1e6 for micros in err.split()[:-1]], usage.ru_maxrss / 1024
+
+
+def fastest(program, data, runs):
+    """The seconds of the fastest of some runs over data, what the last one prints, and the peak memory in MB."""
+    best, peak = None, 0
+    with tempfile.TemporaryFile() as source, tempfile.TemporaryFile() as target:
+        source.write(data)
+        for _ in range(runs):
+            source.seek(0)
+            target.seek(0)
+            target.truncate()
+            start = time.perf_counter()
+            child = subprocess.Popen([program], stdin=source, stdout=target)
+            _, child.returncode, usage = os.wait4(child.pid, 0)
+            taken = time.perf_counter() - start
+            if child.returncode != 0:
+                sys.exit(f"the program ended with status {child.returncode}")
+            best = taken if best is None else min(best, taken)
+            peak = max(peak, usage.ru_maxrss / 1024)
+        target.seek(0)
+        return best, target.read(), peak

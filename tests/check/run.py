@@ -8,18 +8,17 @@ come to. With --reference alone, the program is left out.
 import itertools
 import pathlib
 import random
-import subprocess
 import sys
 
 HERE = pathlib.Path(__file__).resolve().parent
 sys.path.insert(0, str(HERE.parent))
 
+import lines
 from check.reference import outcome
 from check.scripts import Selects
 
 RANDOM = 10_000
 SEED = 5
-SECONDS = 300
 
 SCHEMA = (
     "CREATE TABLE t (a int64, b int8, s string, f bool, x blob); "
@@ -188,38 +187,14 @@ def pairs_of_parts():
             yield select_with({first: text, second: other}), refusal
 
 
-def answers(program, scripts):
-    """What the program says of each script."""
-    text = "".join(script + "\n" for script in scripts).encode("latin-1")
-    done = subprocess.run([program], input=text, stdout=subprocess.PIPE, timeout=SECONDS, check=True)
-    return done.stdout.decode("latin-1").removesuffix("\n").split("\n")
-
-
-def compare(who, cases, found):
-    """How many of the cases are not as they should be; the first ten are printed."""
-    wrong = [(case, got) for case, got in zip(cases, found) if case[1] != got]
-    for (script, want), got in wrong[:10]:
-        print(f"{who}: {script!r}\n  gives  {got!r}\n  wanted {want!r}")
-    if len(found) != len(cases):
-        print(f"{who}: {len(found)} answers for {len(cases)} scripts")
-    return len(wrong) + abs(len(found) - len(cases))
-
-
 def main():
     program = None if sys.argv[1] == "--reference" else sys.argv[1]
     known = [*table(), *operators(), *clauses(), *pairs(), *pairs_of_parts()]
     by_hand = [(SCHEMA + script, wanted) for script, wanted in known]
-    failed = compare("reference.py", by_hand, [outcome(script) for script, _ in by_hand])
-    passed = len(by_hand) - failed
     made = [(script, outcome(script)) for script in Selects(random.Random(SEED)).some(RANDOM)]
     planned = sum(wanted.startswith("ok") for _, wanted in made)
     print(f"{len(by_hand)} scripts by hand; of {RANDOM} random ones {planned} begin with a SELECT that has a plan")
-    if program is not None:
-        cases = by_hand + made
-        wrong = compare("the program", cases, answers(program, [script for script, _ in cases]))
-        passed, failed = passed + len(cases) - wrong, failed + wrong
-    print(f"{passed} passed, {failed} failed")
-    return 1 if failed else 0
+    return lines.run(program, outcome, by_hand, made)
 
 
 if __name__ == "__main__":

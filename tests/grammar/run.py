@@ -6,20 +6,22 @@ of the random scripts reference.py says what they come to. With --reference alon
 """
 import pathlib
 import random
-import subprocess
 import sys
 
-from reference import outcome
-from scripts import Scripts
+HERE = pathlib.Path(__file__).resolve().parent
+sys.path.insert(0, str(HERE.parent))
+
+import lines
+from grammar.reference import outcome
+from grammar.scripts import Scripts
 
 RANDOM = 20_000
 SEED = 4
-SECONDS = 300
 
 
 def table():
     """The scripts of table.txt with their outcomes."""
-    text = (pathlib.Path(__file__).parent / "table.txt").read_text("utf-8")
+    text = (HERE / "table.txt").read_text("utf-8")
     return [tuple(line.split("\t")) for line in text.split("\n") if "\t" in line]
 
 
@@ -68,37 +70,13 @@ def brackets():
     ]
 
 
-def answers(program, scripts):
-    """What the program says of each script."""
-    text = "".join(script + "\n" for script in scripts).encode("latin-1")
-    done = subprocess.run([program], input=text, stdout=subprocess.PIPE, timeout=SECONDS, check=True)
-    return done.stdout.decode("latin-1").removesuffix("\n").split("\n")
-
-
-def compare(who, cases, found):
-    """How many of the cases are not as they should be; the first ten are printed."""
-    wrong = [(case, got) for case, got in zip(cases, found) if case[1] != got]
-    for (script, want), got in wrong[:10]:
-        print(f"{who}: {script!r}\n  gives  {got!r}\n  wanted {want!r}")
-    if len(found) != len(cases):
-        print(f"{who}: {len(found)} answers for {len(cases)} scripts")
-    return len(wrong) + abs(len(found) - len(cases))
-
-
 def main():
     program = None if sys.argv[1] == "--reference" else sys.argv[1]
     by_hand = table() + brackets()
-    failed = compare("reference.py", by_hand, [outcome(script) for script, _ in by_hand])
-    passed = len(by_hand) - failed
     made = [(script, outcome(script)) for script in Scripts(random.Random(SEED)).some(RANDOM)]
     faults = ("unexpected ", "too nested ", "bad ", "unclosed ")
     print(f"{len(by_hand)} scripts by hand; of {RANDOM} random ones {sum(not w.startswith(faults) for _, w in made)} read")
-    if program is not None:
-        cases = by_hand + made
-        wrong = compare("the program", cases, answers(program, [script for script, _ in cases]))
-        passed, failed = passed + len(cases) - wrong, failed + wrong
-    print(f"{passed} passed, {failed} failed")
-    return 1 if failed else 0
+    return lines.run(program, outcome, by_hand, made)
 
 
 if __name__ == "__main__":
