@@ -5,7 +5,8 @@
 
 use ql_edge::NoMemory;
 use ql_lex::tokens;
-use ql_parse::{Exprs, ParseFault, Statement, Statements, copy_expr, script};
+use ql_parse::{ParseFault, script};
+use ql_syntax::{Exprs, Statement, Statements, copy_expr};
 use std::alloc::Global;
 use std::io;
 use std::io::Read;

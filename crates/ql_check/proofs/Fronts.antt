@@ -1,7 +1,7 @@
 -- Chains with and without links.
 use Rattle.std.proofs.Common.{◌≡◌, ◌<◌, ◌≤◌, List, [], ◌∷◌, length, None, refl, arith}
-use Rattle.ql_parse.specs.declared.typed.Typed.TheVariants as t
-use Rattle.ql_parse.specs.declared.typed.TypedLink.{TypedLink}
+use Rattle.ql_syntax.specs.declared.typed.Typed.TheVariants as t
+use Rattle.ql_syntax.specs.declared.typed.TypedLink.{TypedLink}
 use Rattle.ql_rel.specs.Checked.{Checked}
 use Rattle.ql_rel.specs.Operands.{whole_of}
 

@@ -1,7 +1,7 @@
 -- Operators before a part, taken from the last one on.
 use Rattle.std.proofs.Common.{◌≡◌, ◌<◌, ◌≤◌, List, [], ◌∷◌, ◌++◌, length, refl, ap, Ok, arith}
 use Rattle.ql_value.specs.declared.operator.UnOp.{UnOp}
-use Rattle.ql_parse.specs.Typing.{Typing, prefix_type, prefixed_type}
+use Rattle.ql_syntax.specs.Typing.{Typing, prefix_type, prefixed_type}
 use Rattle.ql_rel.specs.Checked.{Checked}
 use Rattle.ql_rel.specs.Operands.{ends_with_minus, but_last, under, signed}
 

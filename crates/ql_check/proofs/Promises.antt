@@ -1,6 +1,6 @@
 -- What the definition promises of a plan holds of the answer.
 use Rattle.std.proofs.Common.{Result, Ok, Err, IfOk}
-use Rattle.ql_parse.specs.declared.statement.Statement.{Statement}
+use Rattle.ql_syntax.specs.declared.statement.Statement.{Statement}
 use Rattle.ql_rel.specs.declared.plan.Plan.{Plan}
 use Rattle.ql_rel.specs.declared.schema.Schema.{Schema}
 use Rattle.ql_rel.specs.Plans.{plan}

@@ -1,12 +1,12 @@
 -- The forms of expressions that have a function of their own.
-use Rattle.ql_parse.specs.declared.syntax.Expr.{Expr, out-Expr}
-use Rattle.ql_parse.specs.declared.syntax.Expr.TheOpen.{Expr-F}
-use Rattle.ql_parse.specs.declared.syntax.Field.{Field}
-use Rattle.ql_parse.specs.declared.syntax.FromSet.{FromSet}
-use Rattle.ql_parse.specs.declared.syntax.Join.{Join}
-use Rattle.ql_parse.specs.declared.syntax.Link.{Link}
-use Rattle.ql_parse.specs.declared.syntax.Select.{Select}
-use Rattle.ql_parse.specs.declared.syntax.SetSource.{SetSource}
+use Rattle.ql_syntax.specs.declared.syntax.Expr.{Expr, out-Expr}
+use Rattle.ql_syntax.specs.declared.syntax.Expr.TheOpen.{Expr-F}
+use Rattle.ql_syntax.specs.declared.syntax.Field.{Field}
+use Rattle.ql_syntax.specs.declared.syntax.FromSet.{FromSet}
+use Rattle.ql_syntax.specs.declared.syntax.Join.{Join}
+use Rattle.ql_syntax.specs.declared.syntax.Link.{Link}
+use Rattle.ql_syntax.specs.declared.syntax.Select.{Select}
+use Rattle.ql_syntax.specs.declared.syntax.SetSource.{SetSource}
 
 -- one layer of an expression
 abbrev pub Layer : Type 0

@@ -1,7 +1,7 @@
 -- What the checker's names, places and scopes stand for.
 use Rattle.std.specs.Prelude.{◌≡◌, ℕ, List, [], ◌∷◌, map, Option, Some, None}
 use Rattle.std.specs.Borrow.{Bor}
-use Rattle.ql_parse.specs.declared.typed.Typed.TheVariants as t
+use Rattle.ql_syntax.specs.declared.typed.Typed.TheVariants as t
 use Rattle.ql_rel.specs.declared.schema.TableSchema.{TableSchema}
 use Rattle.ql_rel.specs.Checked as checked
 use Rattle.ql_rel.specs.Scopes as spec

@@ -1,8 +1,8 @@
 -- What the checker's own types stand for.
 use Rattle.std.specs.Prelude.{Bool, true, false, ◌||◌, not, option_map}
 use Rattle.ql_value.specs.declared.value.Kind.{Kind}
-use Rattle.ql_parse.specs.Kinds.{is_integer, is_truth, is_text, is_byte_list}
-use Rattle.ql_parse.specs.Typing as spec
+use Rattle.ql_syntax.specs.Kinds.{is_integer, is_truth, is_text, is_byte_list}
+use Rattle.ql_syntax.specs.Typing as spec
 use Rattle.ql_rel.specs.Checked as checked
 use Rattle.ql_rel.specs.Operands as operands
 use Rattle.ql_check.specs.declared.checked.Checked.{Checked}

@@ -1,7 +1,7 @@
 ghost use Rattle.std.specs.Prelude.{◌≡◌, map};
 ghost use Rattle.ql_rel.specs.Aggregates as spec;
 
-use ql_parse::{Typed, TypedLink, TypedLinks, Typeds};
+use ql_syntax::{Typed, TypedLink, TypedLinks, Typeds};
 
 /// Whether an aggregate stands in a resolved expression.
 #[cycle(aggregate)]

@@ -1,5 +1,5 @@
 ghost use Rattle.std.specs.Prelude.{◌≡◌, Ok, map, option_map};
-ghost use Rattle.ql_parse.specs.Typing as types;
+ghost use Rattle.ql_syntax.specs.Typing as types;
 ghost use Rattle.ql_rel.specs.Calls as spec;
 ghost use Rattle.ql_rel.specs.Operands.{types as types_of};
 ghost use Rattle.ql_check.specs.Gives.{Gives};
@@ -11,7 +11,7 @@ use crate::fault::refused;
 use crate::parts::{first_kind, meet_all, meet_each, trees};
 use crate::table::{Group, Typing, among, given_type, is_integer, meet, truth_of};
 use ql_edge::Boxed;
-use ql_parse::{Function, Typed};
+use ql_syntax::{Function, Typed};
 use ql_value::{AGGREGATE, COUNT, Kind};
 use std::alloc::Global;
 

@@ -8,7 +8,7 @@ use crate::CheckFault;
 use crate::fault::refused;
 use crate::table::{Typing, is_integer, same_kind};
 use ql_edge::{Boxed, Items};
-use ql_parse::Typed;
+use ql_syntax::Typed;
 use ql_value::{CONSTANT_RANGE, Kind, TYPE, Value, convert, fit};
 use std::alloc::Global;
 

@@ -1,7 +1,7 @@
 ghost use Rattle.std.specs.Prelude.{◌≡◌, IfOk};
 
 use ql_edge::{Boxed, NoMemory};
-use ql_parse::{Typed, TypedLink, TypedLinks, Typeds};
+use ql_syntax::{Typed, TypedLink, TypedLinks, Typeds};
 use ql_value::{UnOps, copy_value};
 use std::alloc::Global;
 

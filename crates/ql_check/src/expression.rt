@@ -20,7 +20,7 @@ use crate::prefix::prefixed;
 use crate::scope::{Scope, column_of, id_of_all, id_of_set};
 use crate::table::Typing;
 use ql_edge::{Bytes, Name};
-use ql_parse::{Expr, Exprs, Function, Link, Links, Typed};
+use ql_syntax::{Expr, Exprs, Function, Link, Links, Typed};
 use ql_value::{COUNT, Kind, LATER, TYPE, UnOp, Value};
 use std::alloc::Global;
 

@@ -1,5 +1,5 @@
 ghost use Rattle.std.specs.Prelude.{◌≡◌, [], ◌∷◌, ◌++◌, Some, map, IfOk};
-ghost use Rattle.ql_parse.specs.Typing.{of_kind};
+ghost use Rattle.ql_syntax.specs.Typing.{of_kind};
 ghost use Rattle.ql_rel.specs.Plans as spec;
 ghost use Rattle.ql_check.specs.Gives.{Gives};
 ghost use Rattle.ql_check.specs.Names.{plain_slot, table_of};
@@ -9,7 +9,7 @@ use crate::fault::refused;
 use crate::scope::{Slot, Slots, is_called, refused_at};
 use crate::table::Typing;
 use ql_edge::{Bytes, Name, NoMemory};
-use ql_parse::{ColumnDef, ColumnDefs, FromSet, FromSets, SetSource};
+use ql_syntax::{ColumnDef, ColumnDefs, FromSet, FromSets, SetSource};
 use ql_rel::{Schema, TableSchema, TableSchemas};
 use ql_value::{AMBIGUOUS, Kind, LATER, NO_TABLE};
 use std::alloc::Global;

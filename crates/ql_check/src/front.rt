@@ -10,7 +10,7 @@ use crate::checked::{Checked, integer_of, meet_type, ruled, take_kind};
 use crate::fault::refused;
 use crate::table::{Typing, operator_type};
 use ql_edge::Boxed;
-use ql_parse::{Typed, TypedLink, TypedLinks};
+use ql_syntax::{Typed, TypedLink, TypedLinks};
 use ql_value::{BinOp, LATER};
 use std::alloc::Global;
 

@@ -1,5 +1,5 @@
 ghost use Rattle.std.specs.Prelude.{◌≡◌, Ok, map};
-ghost use Rattle.ql_parse.specs.Typing as types;
+ghost use Rattle.ql_syntax.specs.Typing as types;
 ghost use Rattle.ql_rel.specs.Operands as spec;
 ghost use Rattle.ql_check.specs.Gives.{Gives, same};
 ghost use Rattle.ql_check.specs.Plain.{has_kind_of, plain, typing_of};
@@ -7,7 +7,7 @@ ghost use Rattle.ql_check.specs.Plain.{has_kind_of, plain, typing_of};
 use crate::CheckFault;
 use crate::checked::{Checked, CheckedList, meet_type};
 use crate::table::{Typing, meet};
-use ql_parse::Typeds;
+use ql_syntax::Typeds;
 use std::alloc::Global;
 
 /// The kind of a part that has one, else that of the parts behind it.

@@ -9,7 +9,7 @@ use crate::copy::copy_typed;
 use crate::parts::{first_kind, kind_before, meet_all, meet_each, trees};
 use crate::table::{Group, Typing, among, meet, truth_of};
 use ql_edge::Boxed;
-use ql_parse::{Typed, TypedLink, TypedLinks};
+use ql_syntax::{Typed, TypedLink, TypedLinks};
 use ql_value::{BinOp, Kind, UnOp, UnOps};
 use std::alloc::Global;
 

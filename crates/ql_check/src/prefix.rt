@@ -1,7 +1,7 @@
 #![tactic(auto, using(crate::proofs::Prefixes::under_none, crate::proofs::Prefixes::under_some, crate::proofs::Prefixes::last_prefix, crate::proofs::Prefixes::minus_last, crate::proofs::Prefixes::front_last))]
 
 ghost use Rattle.std.specs.Prelude.{◌≡◌, [], ◌∷◌, ◌++◌, Ok, Some, true, false, MatchOption};
-ghost use Rattle.ql_parse.specs.Typing as types;
+ghost use Rattle.ql_syntax.specs.Typing as types;
 ghost use Rattle.ql_rel.specs.Operands as spec;
 ghost use Rattle.ql_check.specs.Gives.{Gives};
 ghost use Rattle.ql_check.specs.Plain.{plain, plain_literal, typing_of};
@@ -10,7 +10,7 @@ use crate::CheckFault;
 use crate::checked::{Checked, Literal, literal_of, ruled};
 use crate::table::{Typing, prefix_type};
 use ql_edge::Boxed;
-use ql_parse::Typed;
+use ql_syntax::Typed;
 use ql_value::{UnOp, UnOps};
 use std::alloc::Global;
 

@@ -9,7 +9,7 @@ use crate::CheckFault;
 use crate::checked::{Checked, known};
 use crate::table::Typing;
 use ql_edge::{Bytes, Items, NoMemory};
-use ql_parse::Typed;
+use ql_syntax::Typed;
 use ql_value::{AMBIGUOUS, NO_COLUMN, Refusal};
 use std::alloc::Global;
 

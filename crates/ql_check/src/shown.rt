@@ -1,5 +1,5 @@
 ghost use Rattle.std.specs.Prelude.{◌≡◌, ◌++◌, None, map, IfOk};
-ghost use Rattle.ql_parse.specs.declared.syntax.Field.{out-Field};
+ghost use Rattle.ql_syntax.specs.declared.syntax.Field.{out-Field};
 ghost use Rattle.ql_rel.specs.Plans as spec;
 ghost use Rattle.ql_rel.specs.Types.{plain_name};
 ghost use Rattle.ql_check.specs.Gives.{Gives};
@@ -14,7 +14,7 @@ use crate::from::copy_bytes;
 use crate::scope::{Scope, Slot, Slots, qualified};
 use crate::table::Typing;
 use ql_edge::{Bytes, Items, Name, NoMemory};
-use ql_parse::{Expr, Field, Fields, Typed};
+use ql_syntax::{Expr, Field, Fields, Typed};
 use ql_value::COUNT;
 use std::alloc::Global;
 

@@ -1,6 +1,6 @@
 ghost use Rattle.std.specs.Prelude.{◌≡◌};
-ghost use Rattle.ql_parse.specs.Kinds as kinds;
-ghost use Rattle.ql_parse.specs.Typing as spec;
+ghost use Rattle.ql_syntax.specs.Kinds as kinds;
+ghost use Rattle.ql_syntax.specs.Typing as spec;
 ghost use Rattle.ql_check.specs.Plain.{test_of, typing_of};
 
 use ql_value::{BinOp, Kind, UnOp};

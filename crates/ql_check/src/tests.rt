@@ -1,6 +1,6 @@
 use super::*;
 use ql_edge::{Boxed, NoMemory};
-use ql_parse::{Expr, Exprs, Field, Fields, FromSets, Link, Links, Select, Statement, Statements};
+use ql_syntax::{Expr, Exprs, Field, Fields, FromSets, Link, Links, Select, Statement, Statements};
 use ql_rel::{Indexes, Schema, TableSchemas};
 use ql_value::{BinOp, CONSTANT_RANGE, Kind, TYPE};
 use std::alloc::Global;

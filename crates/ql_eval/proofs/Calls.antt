@@ -1,8 +1,8 @@
 -- The parts of a call.
 use Rattle.std.proofs.Common.{◌≡◌, ℕ, Bool, List, [], ◌∷◌, get_or, sym, ap, ◌∙◌}
 use Rattle.ql_value.specs.declared.value.Value.{Value}
-use Rattle.ql_parse.specs.declared.typed.Typed.{Typed}
-use Rattle.ql_parse.specs.Values.{gives, IsMeant, then_from, measured, asked, asked_of, length_of, value_at, values_at}
+use Rattle.ql_syntax.specs.declared.typed.Typed.{Typed}
+use Rattle.ql_syntax.specs.Values.{gives, IsMeant, then_from, measured, asked, asked_of, length_of, value_at, values_at}
 
 -- what a part that is the first or the second of the parts comes to
 same_value : (row : List Value) (a p : Typed) (x : Value) → a ≡ p → value_at row a ≡ gives x → value_at row p ≡ gives x

@@ -2,7 +2,7 @@
 use Rattle.std.proofs.Common.{◌≡◌, List, [], ◌∷◌, ◌++◌, refl, sym, ap, subst, ◌∙◌}
 use Rattle.ql_value.specs.declared.operator.UnOp.{UnOp}
 use Rattle.ql_value.specs.declared.value.Value.{Value}
-use Rattle.ql_parse.specs.Values.{Outcome, gives, refuses, means_nothing, IsMeant, then_from, prefix, prefixed}
+use Rattle.ql_syntax.specs.Values.{Outcome, gives, refuses, means_nothing, IsMeant, then_from, prefix, prefixed}
 
 pub then_gives : (a : Outcome) → then_from a gives ≡ a
 then_gives (gives x) = refl

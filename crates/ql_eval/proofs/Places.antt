@@ -1,7 +1,7 @@
 -- Places of a row.
 use Rattle.std.proofs.Common.{◌≡◌, ℕ, zero, suc, ◌<◌, List, [], ◌∷◌, length, get_or, refl, arith}
 use Rattle.ql_value.specs.declared.value.Value.{Value}
-use Rattle.ql_parse.specs.Values.{IsMeant, gives, at_place}
+use Rattle.ql_syntax.specs.Values.{IsMeant, gives, at_place}
 
 pub within : (row : List Value) (at : ℕ) → IsMeant (at_place row at) → at < length row
 within [] at h = absurd h

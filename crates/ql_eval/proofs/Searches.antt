@@ -4,7 +4,7 @@ use Rattle.std.proofs.lemmas.Bool.Decides.{Decides-eqb}
 use Rattle.std.proofs.lemmas.Slice.Eq.{slice_eq-Decides}
 use Rattle.memchr.specs.Find.{OccursAt, FindsNeedle}
 use Rattle.memchr.proofs.lemmas.MatchLemmas.{OccursAt-part, OccursAt-from_part}
-use Rattle.ql_parse.specs.Values.{contains, has_prefix}
+use Rattle.ql_syntax.specs.Values.{contains, has_prefix}
 
 -- the part stands at a place of the bytes
 record StandsAt (bytes part : List ℕ) (k : ℕ) : Type 0 where

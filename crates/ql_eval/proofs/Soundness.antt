@@ -7,16 +7,16 @@ use Rattle.ql_value.specs.declared.value.Kind.TheVariants as k
 use Rattle.ql_value.specs.declared.value.Value.{Value}
 use Rattle.ql_value.specs.declared.value.Value.TheVariants as v
 use Rattle.ql_value.specs.Number.{HasKind}
-use Rattle.ql_parse.specs.declared.syntax.Function.{Function}
-use Rattle.ql_parse.specs.declared.syntax.Function.TheVariants as f
-use Rattle.ql_parse.specs.declared.typed.Typed.{Typed, map-Typed}
-use Rattle.ql_parse.specs.declared.typed.TypedLink.{TypedLink}
-use Rattle.ql_parse.specs.declared.typed.Typed.TheFolds.{fold-TypedLink, fold-roll-Typed, fold-roll-TypedLink, ind-Typed}
-use Rattle.ql_parse.specs.declared.typed.Typed.TheOpen.{Typed-F, TypedLink-F}
-use Rattle.ql_parse.specs.declared.typed.Typed.TheViews.{roll-Typed, roll-TypedLink}
-use Rattle.ql_parse.specs.Kinds.{is_integer, is_text, is_byte_list}
-use Rattle.ql_parse.specs.Values.{Outcome, Step, IsMeant, value_step, link_step, gives, refuses, means_nothing, then_from, is_null, operated, linked, chained, asked, asked_of, measured, length_of, coalesced, called, equals, or_equals, is_in, prefixed, convert_to, narrow_to, value_at, step_at}
-use Rattle.ql_parse.specs.Typing.{Typing, only_null, of_kind, ill, IsTyped, HasType, FitsRow, among, given_type, meet, meet_all, truth_of, operator_type, StepType, chain_type, call_type, prefixed_type, converts, type_of, type_step, link_type}
+use Rattle.ql_syntax.specs.declared.syntax.Function.{Function}
+use Rattle.ql_syntax.specs.declared.syntax.Function.TheVariants as f
+use Rattle.ql_syntax.specs.declared.typed.Typed.{Typed, map-Typed}
+use Rattle.ql_syntax.specs.declared.typed.TypedLink.{TypedLink}
+use Rattle.ql_syntax.specs.declared.typed.Typed.TheFolds.{fold-TypedLink, fold-roll-Typed, fold-roll-TypedLink, ind-Typed}
+use Rattle.ql_syntax.specs.declared.typed.Typed.TheOpen.{Typed-F, TypedLink-F}
+use Rattle.ql_syntax.specs.declared.typed.Typed.TheViews.{roll-Typed, roll-TypedLink}
+use Rattle.ql_syntax.specs.Kinds.{is_integer, is_text, is_byte_list}
+use Rattle.ql_syntax.specs.Values.{Outcome, Step, IsMeant, value_step, link_step, gives, refuses, means_nothing, then_from, is_null, operated, linked, chained, asked, asked_of, measured, length_of, coalesced, called, equals, or_equals, is_in, prefixed, convert_to, narrow_to, value_at, step_at}
+use Rattle.ql_syntax.specs.Typing.{Typing, only_null, of_kind, ill, IsTyped, HasType, FitsRow, among, given_type, meet, meet_all, truth_of, operator_type, StepType, chain_type, call_type, prefixed_type, converts, type_of, type_step, link_type}
 use Rattle.ql_eval.specs.declared.fault.EvalFault.{EvalFault}
 use Rattle.ql_eval.specs.Gives.{Gives}
 use Rattle.ql_eval.proofs.TypeLemmas.{among_passes, given_parts, meet_both, meet_typed, pair_typed}

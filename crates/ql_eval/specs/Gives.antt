@@ -3,7 +3,7 @@ use Rattle.std.specs.Prelude.{◌≡◌, Result, Ok, Err}
 use Rattle.ql_value.specs.declared.fault.ValueFault.{ValueFault}
 use Rattle.ql_value.specs.declared.fault.ValueFault.TheVariants as from
 use Rattle.ql_value.specs.declared.value.Value.{Value}
-use Rattle.ql_parse.specs.Values.{Outcome, gives, refuses, divide, range, negative_count}
+use Rattle.ql_syntax.specs.Values.{Outcome, gives, refuses, divide, range, negative_count}
 use Rattle.ql_eval.specs.declared.fault.EvalFault.{EvalFault}
 use Rattle.ql_eval.specs.declared.fault.EvalFault.TheVariants as fault
 

@@ -1,6 +1,6 @@
 -- The questions to two strings.
 use Rattle.std.specs.Prelude.{ℕ, Bool, List}
-use Rattle.ql_parse.specs.Values.{contains, has_prefix, has_suffix}
+use Rattle.ql_syntax.specs.Values.{contains, has_prefix, has_suffix}
 use Rattle.ql_eval.specs.declared.function.Question.{Question}
 use Rattle.ql_eval.specs.declared.function.Question.TheVariants as q
 

@@ -1,5 +1,5 @@
 ghost use Rattle.std.specs.Prelude.{◌≡◌};
-ghost use Rattle.ql_parse.specs.Values as spec;
+ghost use Rattle.ql_syntax.specs.Values as spec;
 
 use ql_value::{BinOp, Value, compare};
 use std::cmp::Ordering;

@@ -1,4 +1,4 @@
-ghost use Rattle.ql_parse.specs.Values as spec;
+ghost use Rattle.ql_syntax.specs.Values as spec;
 ghost use Rattle.ql_eval.specs.Gives.{Gives};
 
 use crate::EvalFault;

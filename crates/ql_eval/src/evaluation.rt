@@ -1,6 +1,6 @@
 ghost use Rattle.std.specs.Prelude.{List, IfOk};
-ghost use Rattle.ql_parse.specs.Typing.{Typing, FitsRow, HasType, IsTyped, WellTyped, type_of};
-ghost use Rattle.ql_parse.specs.Values as spec;
+ghost use Rattle.ql_syntax.specs.Typing.{Typing, FitsRow, HasType, IsTyped, WellTyped, type_of};
+ghost use Rattle.ql_syntax.specs.Values as spec;
 ghost use Rattle.ql_eval.specs.Gives.{Gives};
 ghost use Rattle.ql_eval.specs.Question.{test_of};
 
@@ -11,7 +11,7 @@ use crate::function::{Question, asked, length_of};
 use crate::logic::{decides, either};
 use crate::operate::operate;
 use crate::prefix::prefixed;
-use ql_parse::{Function, Typed, TypedLink, TypedLinks, Typeds};
+use ql_syntax::{Function, Typed, TypedLink, TypedLinks, Typeds};
 use ql_value::{BinOp, Value, copy_value};
 use std::alloc::Global;
 

@@ -12,7 +12,7 @@ mod prefix;
 
 pub use evaluation::eval;
 pub use fault::EvalFault;
-pub use ql_parse::{OptTypeds, Typed, TypedLink, TypedLinks, TypedRows, Typeds};
+pub use ql_syntax::{OptTypeds, Typed, TypedLink, TypedLinks, TypedRows, Typeds};
 
 #[cfg(test)]
 mod tests;

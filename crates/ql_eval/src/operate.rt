@@ -1,5 +1,5 @@
 ghost use Rattle.ql_value.specs.Arith.{IsArithmetic};
-ghost use Rattle.ql_parse.specs.Values as spec;
+ghost use Rattle.ql_syntax.specs.Values as spec;
 ghost use Rattle.ql_eval.specs.Gives.{Gives};
 
 use crate::EvalFault;

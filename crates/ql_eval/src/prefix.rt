@@ -1,6 +1,6 @@
 ghost use Rattle.std.specs.Prelude.{◌≡◌, [], ◌∷◌, ◌++◌, MatchOption};
 ghost use Rattle.ql_value.specs.Arith.{IsArithmetic, on_numbers};
-ghost use Rattle.ql_parse.specs.Values as spec;
+ghost use Rattle.ql_syntax.specs.Values as spec;
 ghost use Rattle.ql_eval.specs.Gives.{Gives};
 
 use crate::EvalFault;

@@ -1,5 +1,5 @@
 ghost use Rattle.std.specs.Prelude.{◌≡◌, [], IfOk};
-ghost use Rattle.ql_parse.specs.Typing.{IsTyped, of_kind, operator_type, type_of};
+ghost use Rattle.ql_syntax.specs.Typing.{IsTyped, of_kind, operator_type, type_of};
 
 use super::*;
 use ql_edge::{Boxed, NoMemory};

@@ -1,11 +1,11 @@
 -- What a whole answers, where its last part is answered by a function.
 use Rattle.std.proofs.Common.{◌≡◌, ℕ, Bool, true, false, List, ◌∙◌}
 use Rattle.std.specs.Prelude.{Result, Ok, Err}
-use Rattle.ql_parse.specs.Lexemes.{Lexeme, sees}
-use Rattle.ql_parse.specs.Rules.{Production, Rule, ◌then◌, ◌or◌, token, maybe, bracketed, the, rule_of, enters}
-use Rattle.ql_parse.specs.Readings.{Parse, pair, left, right, present, node, group, Reads, Stop, Stops, takes, both, first, second, entered, by_rule, other_token, neither}
+use Rattle.ql_syntax.specs.Lexemes.{Lexeme, sees}
+use Rattle.ql_syntax.specs.Rules.{Production, Rule, ◌then◌, ◌or◌, token, maybe, bracketed, the, rule_of, enters}
+use Rattle.ql_syntax.specs.Readings.{Parse, pair, left, right, present, node, group, Reads, Stop, Stops, takes, both, first, second, entered, by_rule, other_token, neither}
 use Rattle.ql_parse.specs.Parses.{Gives, Fails, Answers, AnswersEnclosed, fault_of}
-use Rattle.ql_parse.specs.declared.parse.fault.Fault.{Fault}
+use Rattle.ql_parse.specs.declared.fault.Fault.{Fault}
 use Rattle.ql_parse.proofs.Sequences.{fails_the, fails_second, fails_left, fails_right, fails_part}
 
 -- the second of two parts

@@ -1,11 +1,11 @@
 -- Brackets round a part.
 use Rattle.std.proofs.Common.{◌≡◌, ℕ, suc, true, false, List, [], ◌∷◌, length, drop, sym}
-use Rattle.ql_parse.specs.Lexemes.{Lexeme, sees, is_open, is_close}
-use Rattle.ql_parse.specs.Rules.{Rule, token, bracketed}
-use Rattle.ql_parse.specs.Readings.{Parse, group, Reads, Stop, Stops, takes, enclosed, other_token, unexpected, too_nested, not_open, no_room, within, not_closed}
+use Rattle.ql_syntax.specs.Lexemes.{Lexeme, sees, is_open, is_close}
+use Rattle.ql_syntax.specs.Rules.{Rule, token, bracketed}
+use Rattle.ql_syntax.specs.Readings.{Parse, group, Reads, Stop, Stops, takes, enclosed, other_token, unexpected, too_nested, not_open, no_room, within, not_closed}
 use Rattle.ql_parse.specs.Parses.{Gives, Fails, Encloses, fault_of}
-use Rattle.ql_parse.specs.declared.parse.fault.Fault.{Fault}
-use Rattle.ql_parse.specs.declared.parse.fault.Fault.TheVariants as f
+use Rattle.ql_parse.specs.declared.fault.Fault.{Fault}
+use Rattle.ql_parse.specs.declared.fault.Fault.TheVariants as f
 
 closing : {n k : ℕ} {x : Rule} {bracket : Lexeme} {ts mid : List Lexeme} {a : Parse} {d : Fault} → is_open bracket ≡ true → Reads n x ts a mid → (s : Stop) → Stops k (token is_close) mid s → d ≡ fault_of s
     → (s : Stop) × Stops (suc n) (bracketed x) (bracket ∷ ts) s × (d ≡ fault_of s)

@@ -6,21 +6,21 @@ use Rattle.ql_lex.specs.declared.words.Word.{Word}
 use Rattle.ql_lex.specs.declared.words.Word.TheVariants as w
 use Rattle.ql_lex.specs.declared.token.TokenKind.{TokenKind}
 use Rattle.ql_lex.specs.declared.token.TokenKind.TheVariants as kind
-use Rattle.ql_parse.specs.declared.parse.fault.Fault.{Fault}
-use Rattle.ql_parse.specs.declared.parse.fault.Fault.TheVariants as f
-use Rattle.ql_parse.specs.declared.syntax.Expr.{Expr}
-use Rattle.ql_parse.specs.declared.syntax.Expr.TheVariants as e
-use Rattle.ql_parse.specs.declared.syntax.Function.{Function}
-use Rattle.ql_parse.specs.declared.syntax.Function.TheVariants as function
+use Rattle.ql_parse.specs.declared.fault.Fault.{Fault}
+use Rattle.ql_parse.specs.declared.fault.Fault.TheVariants as f
+use Rattle.ql_syntax.specs.declared.syntax.Expr.{Expr}
+use Rattle.ql_syntax.specs.declared.syntax.Expr.TheVariants as e
+use Rattle.ql_syntax.specs.declared.syntax.Function.{Function}
+use Rattle.ql_syntax.specs.declared.syntax.Function.TheVariants as function
 use Rattle.ql_parse.specs.Enclosed.{count_parts_of, count_call_of, call_of, count_parts, parts}
 use Rattle.ql_parse.specs.Functions.{named, is_count_function}
-use Rattle.ql_parse.specs.Lexemes.{Lexeme, sees, sees_two, is_mark, is_word, is_name, is_open, is_kind, is_count, is_function, is_number, is_text, kind_at, text_at}
-use Rattle.ql_parse.specs.Rules.{Rule, the, primary, ref, expr, token, bracketed, before, maybe, list, mark, ◌then◌, ◌or◌, enters}
-use Rattle.ql_parse.specs.Readings.{Parse, Reads, Stops, leaf, node, left, right, pair, group, present, absent, takes, takes_before, both, first, second, entered, left_out, by_rule, in_right, in_part}
+use Rattle.ql_syntax.specs.Lexemes.{Lexeme, sees, sees_two, is_mark, is_word, is_name, is_open, is_kind, is_count, is_function, is_number, is_text, kind_at, text_at}
+use Rattle.ql_syntax.specs.Rules.{Rule, the, primary, ref, expr, token, bracketed, before, maybe, list, mark, ◌then◌, ◌or◌, enters}
+use Rattle.ql_syntax.specs.Readings.{Parse, Reads, Stops, leaf, node, left, right, pair, group, present, absent, takes, takes_before, both, first, second, entered, left_out, by_rule, in_right, in_part}
 use Rattle.ql_parse.specs.Parses.{Gives, Fails, Encloses}
-use Rattle.ql_parse.specs.Trees.{expr_of, exprs_of, name_of, after_null, function_named}
+use Rattle.ql_syntax.specs.Trees.{expr_of, exprs_of, name_of, after_null, function_named}
 use Rattle.ql_parse.specs.Levels.{kind_of_next}
-use Rattle.ql_parse.specs.Statements.{kind_of}
+use Rattle.ql_syntax.specs.Statements.{kind_of}
 use Rattle.ql_parse.proofs.Sequences.{fails_the, fails_right, fails_left, fails_neither, fails_second}
 
 -- a primary that is no literal

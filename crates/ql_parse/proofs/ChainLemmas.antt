@@ -2,19 +2,19 @@
 use Rattle.std.proofs.Common.{◌≡◌, ℕ, Bool, true, List, [], ◌∷◌, drop, refl}
 use Rattle.ql_value.specs.declared.operator.BinOp.{BinOp}
 use Rattle.ql_value.specs.declared.operator.BinOp.TheVariants as bin
-use Rattle.ql_parse.specs.declared.parse.fault.Fault.{Fault}
-use Rattle.ql_parse.specs.declared.parse.level.Level.{Level}
-use Rattle.ql_parse.specs.declared.syntax.Expr.{Expr}
-use Rattle.ql_parse.specs.declared.syntax.Expr.TheVariants as e
-use Rattle.ql_parse.specs.declared.syntax.Link.{Link, roll-Link}
-use Rattle.ql_parse.specs.Lexemes.{Lexeme, sees, is_prefix}
+use Rattle.ql_parse.specs.declared.fault.Fault.{Fault}
+use Rattle.ql_parse.specs.declared.level.Level.{Level}
+use Rattle.ql_syntax.specs.declared.syntax.Expr.{Expr}
+use Rattle.ql_syntax.specs.declared.syntax.Expr.TheVariants as e
+use Rattle.ql_syntax.specs.declared.syntax.Link.{Link, roll-Link}
+use Rattle.ql_syntax.specs.Lexemes.{Lexeme, sees, is_prefix}
 use Rattle.ql_value.specs.declared.operator.UnOp.{UnOp}
 use Rattle.ql_value.specs.declared.operator.UnOp.TheVariants as un
 use Rattle.ql_parse.specs.Levels.{is_op, part_of, next_op, next_un_op}
-use Rattle.ql_parse.specs.Rules.{Rule, token, ◌then◌, the}
-use Rattle.ql_parse.specs.Readings.{Parse, Reads, leaf, pair, cell, takes, both, in_second}
+use Rattle.ql_syntax.specs.Rules.{Rule, token, ◌then◌, the}
+use Rattle.ql_syntax.specs.Readings.{Parse, Reads, leaf, pair, cell, takes, both, in_second}
 use Rattle.ql_parse.specs.Parses.{Gives, Fails}
-use Rattle.ql_parse.specs.Trees.{bin_op, un_op, chain, signed, expr_of, links_of, ops_of}
+use Rattle.ql_syntax.specs.Trees.{bin_op, un_op, chain, signed, expr_of, links_of, ops_of}
 
 -- a link
 abbrev pub link_of : Parse → Link

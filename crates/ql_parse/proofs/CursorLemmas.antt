@@ -6,7 +6,7 @@ use Rattle.ql_lex.specs.Numbers.{is_number}
 use Rattle.ql_lex.specs.declared.token.Token.{Token}
 use Rattle.ql_lex.specs.declared.token.TokenKind.{TokenKind}
 use Rattle.ql_lex.specs.declared.token.TokenKind.TheVariants as kind
-use Rattle.ql_parse.specs.Lexemes.{lexemes, sees, is_name, is_number as is_number_token, kind_is_name, kind_is_number}
+use Rattle.ql_syntax.specs.Lexemes.{lexemes, sees, is_name, is_number as is_number_token, kind_is_name, kind_is_number}
 
 -- the first token stands on bytes of the source
 pub head_in : (source : List ℕ) (t : Token) (tokens rest : List Token) → tokens ≡ t ∷ rest → All (IsIn source) tokens → IsIn source t

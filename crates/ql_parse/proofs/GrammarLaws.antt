@@ -1,10 +1,10 @@
 -- Laws of reading that hold for every grammar.
 use Rattle.std.proofs.Common.{◌≡◌, ℕ, ◌≤◌, List, length, refl, ap, arith}
-use Rattle.ql_parse.specs.Lexemes.{Lexeme, is_close, sees}
-use Rattle.ql_parse.specs.Rules.{Production, Rule, enters, begins_the, rule_of, statement, creation, removal, alteration, insertion, update, deletion, column, select, set, ref, expr, term, factor, predicate, sum, product, unary, primary}
-use Rattle.ql_parse.specs.Rules as rule
-use Rattle.ql_parse.specs.Readings.{Parse, Reads, Stop, unexpected, Stops}
-use Rattle.ql_parse.specs.Readings as r
+use Rattle.ql_syntax.specs.Lexemes.{Lexeme, is_close, sees}
+use Rattle.ql_syntax.specs.Rules.{Production, Rule, enters, begins_the, rule_of, statement, creation, removal, alteration, insertion, update, deletion, column, select, set, ref, expr, term, factor, predicate, sum, product, unary, primary}
+use Rattle.ql_syntax.specs.Rules as rule
+use Rattle.ql_syntax.specs.Readings.{Parse, Reads, Stop, unexpected, Stops}
+use Rattle.ql_syntax.specs.Readings as r
 
 -- the table of first tokens is what the productions say
 pub begins_as_ruled : (p : Production) (ts : List Lexeme) → begins_the p ts ≡ enters (rule_of p) ts

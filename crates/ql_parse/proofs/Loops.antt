@@ -1,11 +1,11 @@
 -- Repetitions and lists that are read in a loop: whatever is read from here on completes the whole, and wherever reading stops from
 -- here on, the whole stops.
 use Rattle.std.proofs.Common.{◌≡◌, ℕ, suc, Bool, true, false, List, [], ◌∷◌, ◌++◌, length, drop, refl, ap, sym, ◌∙◌, append_assoc, append-nil, ◌≤◌, arith}
-use Rattle.ql_parse.specs.Lexemes.{Lexeme, sees, is_comma}
-use Rattle.ql_parse.specs.Rules.{Rule, many, further, list, enters}
-use Rattle.ql_parse.specs.Readings.{Parse, pair, cell, stop, Stop, Reads, Stops, both, ended, goes_on, no_comma, trailing, member, in_first, in_second, in_one, in_later, in_member, in_further}
+use Rattle.ql_syntax.specs.Lexemes.{Lexeme, sees, is_comma}
+use Rattle.ql_syntax.specs.Rules.{Rule, many, further, list, enters}
+use Rattle.ql_syntax.specs.Readings.{Parse, pair, cell, stop, Stop, Reads, Stops, both, ended, goes_on, no_comma, trailing, member, in_first, in_second, in_one, in_later, in_member, in_further}
 use Rattle.ql_parse.specs.Parses.{Gives, Fails}
-use Rattle.ql_parse.specs.declared.parse.fault.Fault.{Fault}
+use Rattle.ql_parse.specs.declared.fault.Fault.{Fault}
 use Rattle.ql_parse.proofs.GrammarLaws.{shorter}
 
 pub record Going {A : Type 0} (n : ℕ) (inner whole : Rule) (items all : Parse → List A) (old now : List Lexeme) (found : List A) : Type 0 where

@@ -1,12 +1,12 @@
 -- What predicates mean.
 use Rattle.std.proofs.Common.{◌≡◌, ℕ, Bool, List, refl}
-use Rattle.ql_parse.specs.declared.syntax.Expr.{Expr}
-use Rattle.ql_parse.specs.declared.syntax.Expr.TheVariants as e
-use Rattle.ql_parse.specs.Lexemes.{Lexeme}
+use Rattle.ql_syntax.specs.declared.syntax.Expr.{Expr}
+use Rattle.ql_syntax.specs.declared.syntax.Expr.TheVariants as e
+use Rattle.ql_syntax.specs.Lexemes.{Lexeme}
 use Rattle.ql_parse.specs.Predicates.{null_rule, null_of, membership_rule, membership_of}
-use Rattle.ql_parse.specs.Rules.{predicate}
-use Rattle.ql_parse.specs.Readings.{Parse, Reads, left, right, present, node, both, first, second, enclosed}
-use Rattle.ql_parse.specs.Trees.{tested_of}
+use Rattle.ql_syntax.specs.Rules.{predicate}
+use Rattle.ql_syntax.specs.Readings.{Parse, Reads, left, right, present, node, both, first, second, enclosed}
+use Rattle.ql_syntax.specs.Trees.{tested_of}
 
 -- NULL tests
 pub null_tree : {n : ℕ} (part : Expr) {ts rest : List Lexeme} {a : Parse} → Reads n null_rule ts a rest → null_of part a ≡ tested_of part (present (node predicate (right a)))

@@ -10,13 +10,13 @@ use Rattle.ql_lex.specs.contracts.words.Word.{the_type}
 use Rattle.ql_lex.specs.declared.words.Word.TheVariants as w
 use Rattle.ql_lex.specs.declared.token.TokenKind.{TokenKind}
 use Rattle.ql_lex.specs.declared.token.TokenKind.TheVariants as kind
-use Rattle.ql_parse.specs.declared.syntax.Expr.{Expr}
-use Rattle.ql_parse.specs.declared.syntax.Expr.TheVariants as e
-use Rattle.ql_parse.specs.Lexemes.{Lexeme, kind_is_word, sees, is_word, kind_at, text_at}
-use Rattle.ql_parse.specs.Rules.{the, primary}
-use Rattle.ql_parse.specs.Readings.{leaf, node, left, right, takes, first, second, by_rule}
+use Rattle.ql_syntax.specs.declared.syntax.Expr.{Expr}
+use Rattle.ql_syntax.specs.declared.syntax.Expr.TheVariants as e
+use Rattle.ql_syntax.specs.Lexemes.{Lexeme, kind_is_word, sees, is_word, kind_at, text_at}
+use Rattle.ql_syntax.specs.Rules.{the, primary}
+use Rattle.ql_syntax.specs.Readings.{leaf, node, left, right, takes, first, second, by_rule}
 use Rattle.ql_parse.specs.Parses.{Gives}
-use Rattle.ql_parse.specs.Trees.{expr_of}
+use Rattle.ql_syntax.specs.Trees.{expr_of}
 
 -- the kind of the first token
 kind_is : (t : Lexeme) (ts : List Lexeme) (k : TokenKind) → kind_at (t ∷ ts) ≡ Some k → t.kind ≡ k

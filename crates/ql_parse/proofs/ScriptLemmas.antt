@@ -2,22 +2,22 @@
 use Rattle.std.proofs.Common.{◌≡◌, ◌⊎◌, inl, inr, ℕ, suc, ◌<◌, ◌+◌, ◌-◌, ◌≤◌, true, false, List, [], ◌∷◌, ◌++◌, length, drop, refl, ap, sym, ◌∙◌, arith, append_assoc, append-nil}
 use Rattle.std.specs.Prelude.{Option, Result, Ok, Err}
 use Rattle.ql_lex.specs.declared.marks.Mark.TheVariants as m
-use Rattle.ql_parse.specs.declared.parse.fault.Fault.{Fault}
-use Rattle.ql_parse.specs.declared.parse.fault.Fault.TheVariants as f
-use Rattle.ql_parse.specs.declared.parse.fault.ParseFault.{ParseFault}
-use Rattle.ql_parse.specs.declared.parse.fault.ParseFault.TheVariants as p
-use Rattle.ql_parse.specs.declared.statement.Statement.{Statement}
+use Rattle.ql_parse.specs.declared.fault.Fault.{Fault}
+use Rattle.ql_parse.specs.declared.fault.Fault.TheVariants as f
+use Rattle.ql_parse.specs.declared.fault.ParseFault.{ParseFault}
+use Rattle.ql_parse.specs.declared.fault.ParseFault.TheVariants as p
+use Rattle.ql_syntax.specs.declared.statement.Statement.{Statement}
 use Rattle.ql_parse.specs.Later.{later_rule, listed, maybe_statement_of}
 use Rattle.ql_lex.specs.declared.token.Token.{Token}
-use Rattle.ql_parse.specs.Lexemes.{Lexeme, lexemes, sees, is_mark}
-use Rattle.ql_parse.specs.Rules.{Rule, the, statement, maybe, script, finish}
-use Rattle.ql_parse.specs.Readings as r
-use Rattle.ql_parse.specs.Readings.{Parse, leaf, pair, cell, stop, absent, present, Reads, Stop, Stops, unexpected, too_nested}
+use Rattle.ql_syntax.specs.Lexemes.{Lexeme, lexemes, sees, is_mark}
+use Rattle.ql_syntax.specs.Rules.{Rule, the, statement, maybe, script, finish}
+use Rattle.ql_syntax.specs.Readings as r
+use Rattle.ql_syntax.specs.Readings.{Parse, leaf, pair, cell, stop, absent, present, Reads, Stop, Stops, unexpected, too_nested}
 use Rattle.ql_parse.specs.Parses.{Gives, Fails, Adds, fault_of}
 use Rattle.ql_parse.specs.ScriptFaults.{placed}
 use Rattle.ql_parse.specs.ScriptLaws.{ScriptLaws}
-use Rattle.ql_parse.specs.Scripts.{limit, IsUnexpected, IsTooNested}
-use Rattle.ql_parse.specs.Statements.{IsRead, later_of, statements_of, with_statement}
+use Rattle.ql_syntax.specs.Scripts.{limit, IsUnexpected, IsTooNested}
+use Rattle.ql_syntax.specs.Statements.{IsRead, later_of, statements_of, with_statement}
 use Rattle.ql_parse.proofs.GrammarLaws.{one_reading, reads_or_stops, one_stop, shorter}
 
 -- whatever is read from here on completes what stands behind semicolons, and wherever reading stops it stops

@@ -1,23 +1,23 @@
 -- What the parts of a SELECT mean.
 use Rattle.std.proofs.Common.{◌≡◌, ℕ, Bool, List, refl}
 use Rattle.std.specs.Prelude.{Option}
-use Rattle.ql_parse.specs.declared.parse.from.Sources.{Sources}
-use Rattle.ql_parse.specs.declared.parse.select.Filtered.{Filtered}
-use Rattle.ql_parse.specs.declared.syntax.Expr.{Expr}
-use Rattle.ql_parse.specs.declared.syntax.Field.{Field, roll-Field}
-use Rattle.ql_parse.specs.declared.syntax.FromSet.{FromSet, roll-FromSet}
-use Rattle.ql_parse.specs.declared.syntax.Join.{Join, roll-Join}
-use Rattle.ql_parse.specs.declared.syntax.Select.{roll-Select}
-use Rattle.ql_parse.specs.declared.syntax.SetSource.{SetSource}
-use Rattle.ql_parse.specs.declared.syntax.SetSource.TheVariants as source
-use Rattle.ql_parse.specs.declared.syntax.Side.{Side}
-use Rattle.ql_parse.specs.Lexemes.{Lexeme}
+use Rattle.ql_parse.specs.declared.from.Sources.{Sources}
+use Rattle.ql_parse.specs.declared.select.Filtered.{Filtered}
+use Rattle.ql_syntax.specs.declared.syntax.Expr.{Expr}
+use Rattle.ql_syntax.specs.declared.syntax.Field.{Field, roll-Field}
+use Rattle.ql_syntax.specs.declared.syntax.FromSet.{FromSet, roll-FromSet}
+use Rattle.ql_syntax.specs.declared.syntax.Join.{Join, roll-Join}
+use Rattle.ql_syntax.specs.declared.syntax.Select.{roll-Select}
+use Rattle.ql_syntax.specs.declared.syntax.SetSource.{SetSource}
+use Rattle.ql_syntax.specs.declared.syntax.SetSource.TheVariants as source
+use Rattle.ql_syntax.specs.declared.syntax.Side.{Side}
+use Rattle.ql_syntax.specs.Lexemes.{Lexeme}
 use Rattle.ql_parse.specs.Members.{subselect_of}
-use Rattle.ql_parse.specs.Rules.{Rule, the, ref, expr, select, maybe, list, bracketed, subselect}
-use Rattle.ql_parse.specs.Rules as rule
-use Rattle.ql_parse.specs.Readings.{Parse, Reads, pair, right, present, node, group, both, first, second, left_out, entered, enclosed, by_rule}
+use Rattle.ql_syntax.specs.Rules.{Rule, the, ref, expr, select, maybe, list, bracketed, subselect}
+use Rattle.ql_syntax.specs.Rules as rule
+use Rattle.ql_syntax.specs.Readings.{Parse, Reads, pair, right, present, node, group, both, first, second, left_out, entered, enclosed, by_rule}
 use Rattle.ql_parse.specs.Selects.{maybe_join_of, direction_rule, direction_of, filtered_rule, filtered_of, from_of}
-use Rattle.ql_parse.specs.Trees.{source_of, join_of, exprs_of, behind_by, is_descending, is_present, fields_of, select_of}
+use Rattle.ql_syntax.specs.Trees.{source_of, join_of, exprs_of, behind_by, is_descending, is_present, fields_of, select_of}
 
 -- equal parts make equal fields, record sets and joins
 pub same_field : {a b : Expr} {n m : Option (List ℕ)} → a ≡ b → n ≡ m → roll-Field (record { expr = a; alias = n }) ≡ roll-Field (record { expr = b; alias = m })

@@ -1,11 +1,11 @@
 -- Where parts in turn fail.
 use Rattle.std.proofs.Common.{◌≡◌, ℕ, true, false, List, length}
-use Rattle.ql_parse.specs.Lexemes.{Lexeme}
-use Rattle.ql_parse.specs.Rules.{Production, Rule, ◌then◌, ◌or◌, maybe, the, rule_of, enters}
-use Rattle.ql_parse.specs.Readings.{Parse, in_first, in_second, in_left, in_right, neither, in_part, by_its_rule, unexpected}
+use Rattle.ql_syntax.specs.Lexemes.{Lexeme}
+use Rattle.ql_syntax.specs.Rules.{Production, Rule, ◌then◌, ◌or◌, maybe, the, rule_of, enters}
+use Rattle.ql_syntax.specs.Readings.{Parse, in_first, in_second, in_left, in_right, neither, in_part, by_its_rule, unexpected}
 use Rattle.ql_parse.specs.Parses.{Gives, Fails}
-use Rattle.ql_parse.specs.declared.parse.fault.Fault.{Fault}
-use Rattle.ql_parse.specs.declared.parse.fault.Fault.TheVariants as f
+use Rattle.ql_parse.specs.declared.fault.Fault.{Fault}
+use Rattle.ql_parse.specs.declared.fault.Fault.TheVariants as f
 
 -- a production fails where its rule does
 pub fails_the : {n : ℕ} (p : Production) {old : List Lexeme} {d : Fault} → Fails n (rule_of p) old d → Fails n (the p) old d

@@ -4,23 +4,23 @@ use Rattle.std.specs.Prelude.{Option, Result}
 use Rattle.std.specs.declared.alloc.Global.{Global}
 use denote.Ref.{MutBor}
 use Rattle.ql_value.specs.declared.value.Kind.{Kind}
-use Rattle.ql_parse.specs.declared.parse.fault.Fault.{Fault}
-use Rattle.ql_parse.specs.declared.statement.ColumnDef.{ColumnDef}
-use Rattle.ql_parse.specs.declared.syntax.Expr.{Expr}
-use Rattle.ql_parse.specs.declared.syntax.Select.{Select}
-use Rattle.ql_parse.specs.Lexemes.{Lexeme, sees, sees_two}
+use Rattle.ql_parse.specs.declared.fault.Fault.{Fault}
+use Rattle.ql_syntax.specs.declared.statement.ColumnDef.{ColumnDef}
+use Rattle.ql_syntax.specs.declared.syntax.Expr.{Expr}
+use Rattle.ql_syntax.specs.declared.syntax.Select.{Select}
+use Rattle.ql_syntax.specs.Lexemes.{Lexeme, sees, sees_two}
 use Rattle.ql_parse.specs.Nests.{Nests}
-use Rattle.ql_parse.specs.Trees.{name_of}
+use Rattle.ql_syntax.specs.Trees.{name_of}
 use Rattle.ql_lex.specs.declared.words.Word.{Word}
-use Rattle.ql_parse.specs.Rules.{creation, removal, alteration, before, bracketed}
+use Rattle.ql_syntax.specs.Rules.{creation, removal, alteration, before, bracketed}
 use Rattle.ql_parse.specs.Parses.{Gives, no_value}
-use Rattle.ql_parse.specs.Readings.{Parse, Reads, leaf, takes_before, pair, left, right, group, node, both, first, second, enclosed}
+use Rattle.ql_syntax.specs.Readings.{Parse, Reads, leaf, takes_before, pair, left, right, group, node, both, first, second, enclosed}
 use Rattle.ql_parse.specs.StatementParts.{item_rule, one_item_of, table_rule, table_of, index_rule, index_of, made_rule, made_of, quiet_rule, quiet_of, change_rule, change_of}
-use Rattle.ql_parse.specs.Statements.{item_of, creation_of, removal_of, alteration_of}
-use Rattle.ql_parse.specs.declared.statement.Assign.{Assign}
-use Rattle.ql_parse.specs.declared.statement.Item.{Item}
-use Rattle.ql_parse.specs.declared.statement.RowSource.{RowSource}
-use Rattle.ql_parse.specs.declared.statement.Statement.TheVariants as s
+use Rattle.ql_syntax.specs.Statements.{item_of, creation_of, removal_of, alteration_of}
+use Rattle.ql_syntax.specs.declared.statement.Assign.{Assign}
+use Rattle.ql_syntax.specs.declared.statement.Item.{Item}
+use Rattle.ql_syntax.specs.declared.statement.RowSource.{RowSource}
+use Rattle.ql_syntax.specs.declared.statement.Statement.TheVariants as s
 
 -- functions that parse in any room smaller than a number do so for a smaller number
 pub nests_less : {m n : ℕ} {pre : Global → ℕ → MutBor (List Lexeme) → Type 0} {post : Global → ℕ → MutBor (List Lexeme) → Result Expr Fault → MutBor (List Lexeme) → Type 0}

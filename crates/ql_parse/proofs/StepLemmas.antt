@@ -2,13 +2,13 @@
 use Rattle.std.proofs.Common.{◌≡◌, ℕ, Bool, true, false, List, [], ◌∷◌, length, drop, refl, ap}
 use Rattle.ql_lex.specs.declared.token.TokenKind.{TokenKind}
 use Rattle.std.specs.Prelude.{Some, Result, Ok, Err, IsErrAnd, IfErr}
-use Rattle.ql_parse.specs.Lexemes.{Lexeme, sees, kind_at, text_at}
-use Rattle.ql_parse.specs.Rules.{Rule, token, maybe, bracketed}
-use Rattle.ql_parse.specs.Readings.{Parse, leaf, present, absent, takes, left_out, entered, other_token, unexpected}
+use Rattle.ql_syntax.specs.Lexemes.{Lexeme, sees, kind_at, text_at}
+use Rattle.ql_syntax.specs.Rules.{Rule, token, maybe, bracketed}
+use Rattle.ql_syntax.specs.Readings.{Parse, leaf, present, absent, takes, left_out, entered, other_token, unexpected}
 use Rattle.ql_parse.specs.Parses.{Gives, Fails, Answers, AnswersEnclosed, no_value}
-use Rattle.ql_parse.specs.Trees.{is_present}
-use Rattle.ql_parse.specs.declared.parse.fault.Fault.{Fault}
-use Rattle.ql_parse.specs.declared.parse.fault.Fault.TheVariants as f
+use Rattle.ql_syntax.specs.Trees.{is_present}
+use Rattle.ql_parse.specs.declared.fault.Fault.{Fault}
+use Rattle.ql_parse.specs.declared.fault.Fault.TheVariants as f
 
 -- a token that passes is taken
 pub gives_token : {A : Type 0} (n : ℕ) (test : Lexeme → Bool) (tree : Parse → A) (old new : List Lexeme) (value : A) → sees test old ≡ true → new ≡ drop 1 old

@@ -1,18 +1,18 @@
 -- What the grammar has in brackets, and what it means.
 use Rattle.std.specs.Prelude.{Bool, true, false, List, []}
 use Rattle.ql_lex.specs.declared.marks.Mark.TheVariants as m
-use Rattle.ql_parse.specs.declared.parse.members.Members.{Members}
-use Rattle.ql_parse.specs.declared.syntax.Expr.{Expr}
-use Rattle.ql_parse.specs.declared.syntax.Expr.TheVariants as e
-use Rattle.ql_parse.specs.declared.syntax.Function.{Function}
-use Rattle.ql_parse.specs.declared.syntax.Function.TheVariants as f
-use Rattle.ql_parse.specs.declared.syntax.Select.{Select}
+use Rattle.ql_parse.specs.declared.members.Members.{Members}
+use Rattle.ql_syntax.specs.declared.syntax.Expr.{Expr}
+use Rattle.ql_syntax.specs.declared.syntax.Expr.TheVariants as e
+use Rattle.ql_syntax.specs.declared.syntax.Function.{Function}
+use Rattle.ql_syntax.specs.declared.syntax.Function.TheVariants as f
+use Rattle.ql_syntax.specs.declared.syntax.Select.{Select}
 use Rattle.ql_parse.specs.Members.{members_of, subselect_of}
 use Rattle.ql_parse.specs.Nests.{PartOf}
-use Rattle.ql_parse.specs.Readings.{Parse, left, present}
-use Rattle.ql_parse.specs.Rules.{the, expr, list, maybe, mark, ◌or◌}
-use Rattle.ql_parse.specs.Rules as rule
-use Rattle.ql_parse.specs.Trees.{expr_of, exprs_of}
+use Rattle.ql_syntax.specs.Readings.{Parse, left, present}
+use Rattle.ql_syntax.specs.Rules.{the, expr, list, maybe, mark, ◌or◌}
+use Rattle.ql_syntax.specs.Rules as rule
+use Rattle.ql_syntax.specs.Trees.{expr_of, exprs_of}
 
 -- whether `*` stands in a call of count, and the parts
 abbrev pub count_parts_of : Parse → Bool × List Expr

@@ -1,9 +1,9 @@
 -- Names of functions.
 use Rattle.std.specs.Prelude.{ℕ, Bool, true, false, List}
 use Rattle.ql_lex.specs.declared.token.TokenKind.TheVariants as kind
-use Rattle.ql_parse.specs.declared.syntax.Function.{Function}
-use Rattle.ql_parse.specs.declared.syntax.Function.TheVariants as f
-use Rattle.ql_parse.specs.Lexemes.{Lexeme}
+use Rattle.ql_syntax.specs.declared.syntax.Function.{Function}
+use Rattle.ql_syntax.specs.declared.syntax.Function.TheVariants as f
+use Rattle.ql_syntax.specs.Lexemes.{Lexeme}
 
 -- a name with these bytes
 abbrev pub named : List ℕ → Lexeme

@@ -1,10 +1,10 @@
 -- The statements behind semicolons.
 use Rattle.std.specs.Prelude.{List, [], ◌∷◌, Option, Some, None}
 use Rattle.ql_lex.specs.declared.marks.Mark.TheVariants as m
-use Rattle.ql_parse.specs.declared.statement.Statement.{Statement}
-use Rattle.ql_parse.specs.Rules.{Rule, the, statement, maybe, many, mark, ◌then◌}
-use Rattle.ql_parse.specs.Readings.{Parse, present}
-use Rattle.ql_parse.specs.Statements.{statement_of}
+use Rattle.ql_syntax.specs.declared.statement.Statement.{Statement}
+use Rattle.ql_syntax.specs.Rules.{Rule, the, statement, maybe, many, mark, ◌then◌}
+use Rattle.ql_syntax.specs.Readings.{Parse, present}
+use Rattle.ql_syntax.specs.Statements.{statement_of}
 
 -- `{";" [Statement]}`
 abbrev pub later_rule : Rule

@@ -7,11 +7,11 @@ use Rattle.ql_value.specs.declared.operator.UnOp.{UnOp}
 use Rattle.ql_value.specs.declared.operator.UnOp.TheVariants as un
 use Rattle.ql_value.specs.declared.value.Kind.{Kind}
 use Rattle.ql_value.specs.declared.value.Kind.TheVariants as k
-use Rattle.ql_parse.specs.declared.parse.level.Level.{Level}
-use Rattle.ql_parse.specs.declared.parse.level.Level.TheVariants as l
-use Rattle.ql_parse.specs.Lexemes.{Lexeme, is_either, is_both, is_comparison, is_sum, is_product}
-use Rattle.ql_parse.specs.Rules.{Production, Rule, token, ◌then◌, many, the, term, factor, sum, product, unary}
-use Rattle.ql_parse.specs.Trees.{bin_op, un_op, kind_named}
+use Rattle.ql_parse.specs.declared.level.Level.{Level}
+use Rattle.ql_parse.specs.declared.level.Level.TheVariants as l
+use Rattle.ql_syntax.specs.Lexemes.{Lexeme, is_either, is_both, is_comparison, is_sum, is_product}
+use Rattle.ql_syntax.specs.Rules.{Production, Rule, token, ◌then◌, many, the, term, factor, sum, product, unary}
+use Rattle.ql_syntax.specs.Trees.{bin_op, un_op, kind_named}
 
 -- a token is an operator of a level
 abbrev pub is_op : Level → Lexeme → Bool

@@ -1,12 +1,12 @@
 -- The lists of the grammar.
 use Rattle.std.specs.Prelude.{refl}
-use Rattle.ql_parse.specs.declared.syntax.Expr.{Expr}
-use Rattle.ql_parse.specs.declared.syntax.Field.{Field}
-use Rattle.ql_parse.specs.declared.syntax.FromSet.{FromSet}
+use Rattle.ql_syntax.specs.declared.syntax.Expr.{Expr}
+use Rattle.ql_syntax.specs.declared.syntax.Field.{Field}
+use Rattle.ql_syntax.specs.declared.syntax.FromSet.{FromSet}
 use Rattle.ql_parse.specs.Nests.{ListOf}
 use Rattle.ql_parse.specs.Selects.{field_rule}
-use Rattle.ql_parse.specs.Rules.{the, expr, set, ref}
-use Rattle.ql_parse.specs.Trees.{expr_of, exprs_of, field_of, fields_of, set_of, sets_in}
+use Rattle.ql_syntax.specs.Rules.{the, expr, set, ref}
+use Rattle.ql_syntax.specs.Trees.{expr_of, exprs_of, field_of, fields_of, set_of, sets_in}
 
 -- expressions
 abbrev pub expr_list : ListOf Expr

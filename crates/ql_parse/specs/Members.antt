@@ -1,10 +1,10 @@
 -- The members of an IN.
 use Rattle.std.specs.Prelude.{[]}
-use Rattle.ql_parse.specs.declared.parse.members.Members.{Members}
-use Rattle.ql_parse.specs.declared.parse.members.Members.TheVariants as m
-use Rattle.ql_parse.specs.declared.syntax.Select.{Select}
-use Rattle.ql_parse.specs.Readings.{Parse, pair, left, right}
-use Rattle.ql_parse.specs.Trees.{exprs_of, select_of}
+use Rattle.ql_parse.specs.declared.members.Members.{Members}
+use Rattle.ql_parse.specs.declared.members.Members.TheVariants as m
+use Rattle.ql_syntax.specs.declared.syntax.Select.{Select}
+use Rattle.ql_syntax.specs.Readings.{Parse, pair, left, right}
+use Rattle.ql_syntax.specs.Trees.{exprs_of, select_of}
 
 -- the SELECT of a subselect
 abbrev pub subselect_of : Parse → Select

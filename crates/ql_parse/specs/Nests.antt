@@ -3,14 +3,14 @@ use Rattle.std.specs.Prelude.{◌≡◌, ℕ, suc, ◌<◌, Bool, List, [], ◌�
 use Rattle.std.specs.declared.alloc.Global.{Global}
 use denote.Ref.{MutBor}
 use denote.Bor.{Bor}
-use Rattle.ql_parse.specs.declared.parse.fault.Fault.{Fault}
-use Rattle.ql_parse.specs.declared.syntax.Expr.{Expr}
-use Rattle.ql_parse.specs.declared.syntax.Select.{Select}
-use Rattle.ql_parse.specs.Lexemes.{Lexeme}
-use Rattle.ql_parse.specs.Rules.{Rule, the, expr, select, enters}
-use Rattle.ql_parse.specs.Readings.{Parse, pair, cell, stop}
+use Rattle.ql_parse.specs.declared.fault.Fault.{Fault}
+use Rattle.ql_syntax.specs.declared.syntax.Expr.{Expr}
+use Rattle.ql_syntax.specs.declared.syntax.Select.{Select}
+use Rattle.ql_syntax.specs.Lexemes.{Lexeme}
+use Rattle.ql_syntax.specs.Rules.{Rule, the, expr, select, enters}
+use Rattle.ql_syntax.specs.Readings.{Parse, pair, cell, stop}
 use Rattle.ql_parse.specs.Parses.{Answers}
-use Rattle.ql_parse.specs.Trees.{expr_of, select_of}
+use Rattle.ql_syntax.specs.Trees.{expr_of, select_of}
 
 -- two functions parse expressions and SELECTs in any room smaller than `n`
 pub record Nests (n : ℕ) (pre : Global → ℕ → MutBor (List Lexeme) → Type 0)

@@ -1,10 +1,10 @@
 -- What a function of the parser answers: it reads by a rule, or tells where reading stops.
 use Rattle.std.specs.Prelude.{◌≡◌, ◌≢◌, ℕ, List, ◌++◌, length, Result, Ok, Err}
-use Rattle.ql_parse.specs.Lexemes.{Lexeme}
-use Rattle.ql_parse.specs.Rules.{Rule, bracketed}
-use Rattle.ql_parse.specs.Readings.{Parse, group, Reads, Stop, Stops, unexpected, too_nested}
-use Rattle.ql_parse.specs.declared.parse.fault.Fault.{Fault}
-use Rattle.ql_parse.specs.declared.parse.fault.Fault.TheVariants as f
+use Rattle.ql_syntax.specs.Lexemes.{Lexeme}
+use Rattle.ql_syntax.specs.Rules.{Rule, bracketed}
+use Rattle.ql_syntax.specs.Readings.{Parse, group, Reads, Stop, Stops, unexpected, too_nested}
+use Rattle.ql_parse.specs.declared.fault.Fault.{Fault}
+use Rattle.ql_parse.specs.declared.fault.Fault.TheVariants as f
 
 -- a place where reading stops, told by the number of tokens from there on
 abbrev pub fault_of : Stop → Fault

@@ -1,14 +1,14 @@
 -- The predicates behind a part, one by one.
 use Rattle.std.specs.Prelude.{Bool}
 use Rattle.ql_lex.specs.declared.words.Word.TheVariants as w
-use Rattle.ql_parse.specs.declared.parse.members.Members.{Members}
-use Rattle.ql_parse.specs.declared.parse.members.Members.TheVariants as m
-use Rattle.ql_parse.specs.declared.syntax.Expr.{Expr}
-use Rattle.ql_parse.specs.declared.syntax.Expr.TheVariants as e
+use Rattle.ql_parse.specs.declared.members.Members.{Members}
+use Rattle.ql_parse.specs.declared.members.Members.TheVariants as m
+use Rattle.ql_syntax.specs.declared.syntax.Expr.{Expr}
+use Rattle.ql_syntax.specs.declared.syntax.Expr.TheVariants as e
 use Rattle.ql_parse.specs.Members.{members_of}
-use Rattle.ql_parse.specs.Readings.{Parse, pair, left, right, group}
-use Rattle.ql_parse.specs.Rules.{Rule, the, expr, sum, word, maybe, list, bracketed, subselect, ◌then◌, ◌or◌}
-use Rattle.ql_parse.specs.Trees.{expr_of, is_present}
+use Rattle.ql_syntax.specs.Readings.{Parse, pair, left, right, group}
+use Rattle.ql_syntax.specs.Rules.{Rule, the, expr, sum, word, maybe, list, bracketed, subselect, ◌then◌, ◌or◌}
+use Rattle.ql_syntax.specs.Trees.{expr_of, is_present}
 
 -- `IS [NOT] NULL`
 abbrev pub null_rule : Rule

@@ -1,9 +1,9 @@
 -- The fault of a whole script.
 use Rattle.std.specs.Prelude.{ℕ, ◌-◌}
-use Rattle.ql_parse.specs.declared.parse.fault.Fault.{Fault}
-use Rattle.ql_parse.specs.declared.parse.fault.Fault.TheVariants as f
-use Rattle.ql_parse.specs.declared.parse.fault.ParseFault.{ParseFault}
-use Rattle.ql_parse.specs.declared.parse.fault.ParseFault.TheVariants as p
+use Rattle.ql_parse.specs.declared.fault.Fault.{Fault}
+use Rattle.ql_parse.specs.declared.fault.Fault.TheVariants as f
+use Rattle.ql_parse.specs.declared.fault.ParseFault.{ParseFault}
+use Rattle.ql_parse.specs.declared.fault.ParseFault.TheVariants as p
 
 -- a fault told by the tokens that are left, told by the token's number
 abbrev pub placed : ℕ → Fault → ParseFault

@@ -1,9 +1,9 @@
 -- What the definition of scripts promises of every list of tokens.
 use Rattle.std.specs.Prelude.{◌≡◌, ℕ, List}
-use Rattle.ql_parse.specs.declared.statement.Statement.{Statement}
-use Rattle.ql_parse.specs.Lexemes.{Lexeme}
-use Rattle.ql_parse.specs.Scripts.{IsUnexpected, IsTooNested}
-use Rattle.ql_parse.specs.Statements.{IsRead}
+use Rattle.ql_syntax.specs.declared.statement.Statement.{Statement}
+use Rattle.ql_syntax.specs.Lexemes.{Lexeme}
+use Rattle.ql_syntax.specs.Scripts.{IsUnexpected, IsTooNested}
+use Rattle.ql_syntax.specs.Statements.{IsRead}
 
 -- tokens read as one list of statements, or stop at one token for one reason, and never both
 pub record ScriptLaws : Type 0 where

@@ -2,15 +2,15 @@
 use Rattle.std.specs.Prelude.{Bool, true, false, List, Option, Some, None}
 use Rattle.ql_lex.specs.declared.marks.Mark.TheVariants as m
 use Rattle.ql_lex.specs.declared.words.Word.TheVariants as w
-use Rattle.ql_parse.specs.declared.syntax.Expr.{Expr}
-use Rattle.ql_parse.specs.declared.syntax.Expr.TheVariants as e
-use Rattle.ql_parse.specs.declared.parse.from.Sources.{Sources}
-use Rattle.ql_parse.specs.declared.parse.select.Filtered.{Filtered}
-use Rattle.ql_parse.specs.declared.syntax.Join.{Join, roll-Join}
-use Rattle.ql_parse.specs.declared.syntax.Side.TheVariants as side
-use Rattle.ql_parse.specs.Rules.{Rule, the, expr, ref, set, word, mark, name, maybe, list, filter, join, subselect, bracketed, ◌then◌, ◌or◌}
-use Rattle.ql_parse.specs.Readings.{Parse, pair, right, present}
-use Rattle.ql_parse.specs.Trees.{expr_of, set_of, side_of, sets_of, join_of, option_of, behind_by, is_descending}
+use Rattle.ql_syntax.specs.declared.syntax.Expr.{Expr}
+use Rattle.ql_syntax.specs.declared.syntax.Expr.TheVariants as e
+use Rattle.ql_parse.specs.declared.from.Sources.{Sources}
+use Rattle.ql_parse.specs.declared.select.Filtered.{Filtered}
+use Rattle.ql_syntax.specs.declared.syntax.Join.{Join, roll-Join}
+use Rattle.ql_syntax.specs.declared.syntax.Side.TheVariants as side
+use Rattle.ql_syntax.specs.Rules.{Rule, the, expr, ref, set, word, mark, name, maybe, list, filter, join, subselect, bracketed, ◌then◌, ◌or◌}
+use Rattle.ql_syntax.specs.Readings.{Parse, pair, right, present}
+use Rattle.ql_syntax.specs.Trees.{expr_of, set_of, side_of, sets_of, join_of, option_of, behind_by, is_descending}
 
 -- `[AS name]`
 abbrev pub alias_rule : Rule

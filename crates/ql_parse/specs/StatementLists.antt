@@ -1,15 +1,15 @@
 -- The lists in statements, and what stands in brackets there.
 use Rattle.std.specs.Prelude.{ℕ, List, refl}
-use Rattle.ql_parse.specs.declared.statement.Assign.{Assign}
-use Rattle.ql_parse.specs.declared.statement.ColumnDef.{ColumnDef}
-use Rattle.ql_parse.specs.declared.statement.Item.{Item}
-use Rattle.ql_parse.specs.declared.syntax.Expr.{Expr}
+use Rattle.ql_syntax.specs.declared.statement.Assign.{Assign}
+use Rattle.ql_syntax.specs.declared.statement.ColumnDef.{ColumnDef}
+use Rattle.ql_syntax.specs.declared.statement.Item.{Item}
+use Rattle.ql_syntax.specs.declared.syntax.Expr.{Expr}
 use Rattle.ql_parse.specs.Nests.{ListOf, PartOf}
 use Rattle.ql_parse.specs.Parses.{no_value}
-use Rattle.ql_parse.specs.Rules.{the, column, expr, name, list, nothing}
+use Rattle.ql_syntax.specs.Rules.{the, column, expr, name, list, nothing}
 use Rattle.ql_parse.specs.StatementParts.{row_rule, assign_rule, item_rule, one_item_of}
-use Rattle.ql_parse.specs.Statements.{column_of, columns_of, names_of, row_of, rows_of, assign_of, assigns_of}
-use Rattle.ql_parse.specs.Trees.{name_of, exprs_of}
+use Rattle.ql_syntax.specs.Statements.{column_of, columns_of, names_of, row_of, rows_of, assign_of, assigns_of}
+use Rattle.ql_syntax.specs.Trees.{name_of, exprs_of}
 
 -- the columns of a table
 abbrev pub column_list : ListOf ColumnDef

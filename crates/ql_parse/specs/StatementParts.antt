@@ -3,16 +3,16 @@ use Rattle.std.specs.Prelude.{ℕ, Bool, false, List, [], Option}
 use Rattle.ql_lex.specs.declared.marks.Mark.TheVariants as m
 use Rattle.ql_lex.specs.declared.words.Word.{Word}
 use Rattle.ql_lex.specs.declared.words.Word.TheVariants as w
-use Rattle.ql_parse.specs.declared.statement.Item.{Item}
-use Rattle.ql_parse.specs.declared.statement.Item.TheVariants as item
-use Rattle.ql_parse.specs.declared.statement.Statement.{Statement}
-use Rattle.ql_parse.specs.declared.statement.Statement.TheVariants as s
-use Rattle.ql_parse.specs.declared.syntax.Expr.{Expr}
-use Rattle.ql_parse.specs.Lexemes.{is_id, is_open}
-use Rattle.ql_parse.specs.Rules.{Rule, ◌then◌, ◌or◌, the, column, expr, select, before, nothing, maybe, bracketed, list, name, word, mark, if_exists, if_not_exists}
-use Rattle.ql_parse.specs.Readings.{Parse, pair, left, right, group}
-use Rattle.ql_parse.specs.Statements.{is_not_null, rule_in, columns_of, item_of, column_of}
-use Rattle.ql_parse.specs.Trees.{name_of, is_present}
+use Rattle.ql_syntax.specs.declared.statement.Item.{Item}
+use Rattle.ql_syntax.specs.declared.statement.Item.TheVariants as item
+use Rattle.ql_syntax.specs.declared.statement.Statement.{Statement}
+use Rattle.ql_syntax.specs.declared.statement.Statement.TheVariants as s
+use Rattle.ql_syntax.specs.declared.syntax.Expr.{Expr}
+use Rattle.ql_syntax.specs.Lexemes.{is_id, is_open}
+use Rattle.ql_syntax.specs.Rules.{Rule, ◌then◌, ◌or◌, the, column, expr, select, before, nothing, maybe, bracketed, list, name, word, mark, if_exists, if_not_exists}
+use Rattle.ql_syntax.specs.Readings.{Parse, pair, left, right, group}
+use Rattle.ql_syntax.specs.Statements.{is_not_null, rule_in, columns_of, item_of, column_of}
+use Rattle.ql_syntax.specs.Trees.{name_of, is_present}
 
 -- `[NOT NULL | Expr]`
 abbrev pub constraint_rule : Rule

@@ -1,24 +1,36 @@
-//! From the bytes of a script to its statements.
+//! From the tokens of a script to its statements.
 #![tactic(auto)]
 
-mod copy;
-mod parse;
-mod print;
-mod print_statements;
-mod spelled;
+mod alter;
+mod brackets;
+mod chain;
+mod clause;
+mod columns;
+mod create;
+mod cursor;
+mod exists;
+mod fault;
+mod from;
+mod functions;
+mod insert;
+mod kinds;
+mod knot;
+mod level;
+mod list;
+mod members;
+mod parser;
+mod predicate;
+mod primary;
+mod scripts;
+mod select;
 mod statement;
-mod syntax;
-mod typed;
+mod steps;
+mod update;
 
-pub use copy::copy_expr;
-pub use parse::{BRACKET_LIMIT, ParseFault, script};
-pub use print::print_expr;
-pub use print_statements::print_statement;
-pub use statement::{
-    Assign, Assigns, ColumnDef, ColumnDefs, ExprRows, Item, RowSource, Statement, Statements,
+pub use fault::ParseFault;
+pub use ql_syntax::{
+    Assign, Assigns, ColumnDef, ColumnDefs, Expr, ExprRows, Exprs, Field, Fields, FromSet, FromSets,
+    Function, Item, Join, Link, Links, RowSource, Select, SetSource, Side, Statement, Statements,
+    copy_expr,
 };
-pub use syntax::{
-    Expr, Exprs, Field, Fields, FromSet, FromSets, Function, Join, Link, Links, Select, SetSource,
-    Side,
-};
-pub use typed::{OptTypeds, Typed, TypedLink, TypedLinks, TypedRows, Typeds};
+pub use scripts::{BRACKET_LIMIT, script};

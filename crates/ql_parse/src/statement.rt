@@ -1,102 +1,74 @@
-use crate::syntax::{Expr, Exprs, Select};
-use ql_edge::{Items, Name, Names};
-use ql_value::Kind;
+ghost use Rattle.std.specs.Prelude.{◌≡◌, None, Some};
+ghost use Rattle.ql_lex.specs.declared.token.TokenKind.TheVariants as kind;
+ghost use Rattle.ql_syntax.specs.Lexemes.{kind_at};
+ghost use Rattle.ql_parse.specs.Nests.{Nests};
+ghost use Rattle.ql_parse.specs.Parses.{Answers, AnswersAnywhere};
+ghost use Rattle.ql_syntax.specs.Rules as rule;
+ghost use Rattle.ql_parse.specs.StatementParts as spec;
+ghost use Rattle.ql_syntax.specs.Statements.{statement_of};
 
-/// A column of a table: its name and kind, what its values must meet, and what stands in place of NULL.
-#[derive(Drop)]
-pub struct ColumnDef {
-    pub name: Name,
-    pub kind: Kind,
-    pub not_null: bool,
-    /// A condition that every row meets. With NOT NULL there is none.
-    pub rule: Option<Expr>,
-    pub default: Option<Expr>,
+use crate::alter::{removal, truncation};
+use crate::cursor::Cursor;
+use crate::fault::Fault;
+use crate::parser::Parser;
+use crate::steps::{expect_word, unexpected};
+use ql_syntax::Statement;
+use ql_syntax::{Expr, Select};
+use ql_lex::{TokenKind, Word};
+use std::alloc::Global;
+
+/// BEGIN TRANSACTION.
+fn begin(cursor: &mut Cursor<'_>) -> Result<Statement, Fault>
+    ensures { AnswersAnywhere spec.begin_rule spec.begin_of cursor.old result cursor.new }
+{
+    expect_word(cursor, Word::Begin)?;
+    expect_word(cursor, Word::Transaction)?;
+    Ok(Statement::Begin)
 }
 
-/// The columns of a table.
-pub type ColumnDefs = Items<ColumnDef>;
+impl<
+    E: Fn(Global, usize, &mut Cursor<'_>) -> Result<Expr, Fault> + Copy,
+    S: Fn(Global, usize, &mut Cursor<'_>) -> Result<Select, Fault> + Copy,
+> Parser<E, S> {
+    /// A statement that begins with a keyword, the next token.
+    fn worded(&self, cursor: &mut Cursor<'_>, word: Word) -> Result<Statement, Fault>
+        requires nests { Nests self.now.room (E.pre self.now.expr) (E.post self.now.expr) (S.pre self.now.select) (S.post self.now.select) }
+        requires next { kind_at cursor.old ≡ Some (kind.Word word) }
+        ensures { Answers self.now.room (rule.the rule.statement) statement_of cursor.old result cursor.new }
+    {
+        match word {
+            Word::Begin => begin(cursor),
+            Word::Commit => {
+                cursor.skip();
+                Ok(Statement::Commit)
+            }
+            Word::Rollback => {
+                cursor.skip();
+                Ok(Statement::Rollback)
+            }
+            Word::Select => Ok(Statement::Query(self.query(cursor)?)),
+            Word::Create => self.creation(cursor),
+            Word::Drop => removal(self.alloc, cursor),
+            Word::Alter => self.alteration(cursor),
+            Word::Truncate => truncation(self.alloc, cursor),
+            Word::Insert => self.insertion(cursor),
+            Word::Update => self.update(cursor),
+            Word::Delete => self.deletion(cursor),
+            _ => Err(unexpected(cursor)),
+        }
+    }
 
-/// What an index orders by: a column, or the id of the row.
-#[derive(Debug, Drop)]
-pub enum Item {
-    Column(Name),
-    Id,
+    /// A statement.
+    pub fn statement(&self, cursor: &mut Cursor<'_>) -> Result<Statement, Fault>
+        requires { Nests self.now.room (E.pre self.now.expr) (E.post self.now.expr) (S.pre self.now.select) (S.post self.now.select) }
+        ensures { Answers self.now.room (rule.the rule.statement) statement_of cursor.old result cursor.new }
+    {
+        let Some(kind) = cursor.kind() else {
+            return Err(unexpected(cursor));
+        };
+        match kind {
+            TokenKind::Word(word) => self.worded(cursor, word),
+            _ => Err(unexpected(cursor)),
+        }
+    }
 }
-
-/// Rows of an INSERT, each a list of expressions.
-pub type ExprRows = Items<Exprs>;
-
-/// Where an INSERT takes its rows from.
-#[derive(Drop)]
-pub enum RowSource {
-    Rows(ExprRows),
-    Query(Select),
-}
-
-/// A column of an UPDATE and its new value.
-#[derive(Drop)]
-pub struct Assign {
-    pub column: Name,
-    pub value: Expr,
-}
-
-/// The assignments of an UPDATE.
-pub type Assigns = Items<Assign>;
-
-/// A statement as it is written. `quiet` is IF EXISTS or IF NOT EXISTS.
-#[derive(Drop)]
-pub enum Statement {
-    Begin,
-    Commit,
-    Rollback,
-    Query(Select),
-    CreateTable {
-        quiet: bool,
-        table: Name,
-        columns: ColumnDefs,
-    },
-    DropTable {
-        quiet: bool,
-        table: Name,
-    },
-    AddColumn {
-        table: Name,
-        column: ColumnDef,
-    },
-    DropColumn {
-        table: Name,
-        column: Name,
-    },
-    CreateIndex {
-        unique: bool,
-        quiet: bool,
-        index: Name,
-        table: Name,
-        item: Item,
-    },
-    DropIndex {
-        quiet: bool,
-        index: Name,
-    },
-    /// With no columns, a row has a value for each column of the table.
-    Insert {
-        table: Name,
-        columns: Names,
-        source: RowSource,
-    },
-    Update {
-        table: Name,
-        sets: Assigns,
-        filter: Option<Expr>,
-    },
-    Delete {
-        table: Name,
-        filter: Option<Expr>,
-    },
-    Truncate {
-        table: Name,
-    },
-}
-
-/// The statements of a script, in order.
-pub type Statements = Items<Statement>;

@@ -4,12 +4,12 @@ use Rattle.ql_value.specs.declared.operator.BinOp.{BinOp}
 use Rattle.ql_value.specs.declared.operator.BinOp.TheVariants as op
 use Rattle.ql_value.specs.declared.value.Kind.{Kind}
 use Rattle.ql_value.specs.declared.value.Kind.TheVariants as k
-use Rattle.ql_parse.specs.Kinds.{is_integer, is_truth, same_kind}
-use Rattle.ql_parse.specs.declared.syntax.Function.{Function}
-use Rattle.ql_parse.specs.declared.syntax.Function.TheVariants as f
-use Rattle.ql_parse.specs.declared.typed.Typed.{Typed}
-use Rattle.ql_parse.specs.declared.typed.Typed.TheVariants as t
-use Rattle.ql_parse.specs.Typing.{Typing, only_null, of_kind, ill, IsTyped, among, given_type, truth_of, meet, meet_all, operator_type, chain_type}
+use Rattle.ql_syntax.specs.Kinds.{is_integer, is_truth, same_kind}
+use Rattle.ql_syntax.specs.declared.syntax.Function.{Function}
+use Rattle.ql_syntax.specs.declared.syntax.Function.TheVariants as f
+use Rattle.ql_syntax.specs.declared.typed.Typed.{Typed}
+use Rattle.ql_syntax.specs.declared.typed.Typed.TheVariants as t
+use Rattle.ql_syntax.specs.Typing.{Typing, only_null, of_kind, ill, IsTyped, among, given_type, truth_of, meet, meet_all, operator_type, chain_type}
 use Rattle.ql_rel.specs.Answers.{then_with, refused}
 use Rattle.ql_rel.specs.Checked.{Checked, meet_type, kind_or_int64, ruled}
 use Rattle.ql_rel.specs.Operands.{first_kind, pair, between_tree, between, truth, link}

@@ -4,8 +4,8 @@ use Rattle.std.proofs.lemmas.List.{map-append}
 use Rattle.ql_value.specs.declared.operator.BinOp.{BinOp}
 use Rattle.ql_value.specs.declared.operator.BinOp.TheVariants as op
 use Rattle.ql_value.specs.declared.value.Kind.TheVariants as k
-use Rattle.ql_parse.specs.declared.typed.TypedLink.{TypedLink}
-use Rattle.ql_parse.specs.Typing.{Typing, of_kind, IsTyped, operator_type, StepType, chain_type}
+use Rattle.ql_syntax.specs.declared.typed.TypedLink.{TypedLink}
+use Rattle.ql_syntax.specs.Typing.{Typing, of_kind, IsTyped, operator_type, StepType, chain_type}
 use Rattle.ql_rel.specs.Answers.{Answer, then_with, refused}
 use Rattle.ql_rel.specs.Checked.{Checked, take_kind, meet_type, is_number_type, kind_or_int64, ruled}
 use Rattle.ql_rel.specs.Operands.{Front, Step, front_of, whole_of, whole, link, longer, by_table, meet_behind, sharing, is_like, is_arithmetic, shares_kind, linked, stepped, chained}

@@ -1,9 +1,9 @@
 -- What the definitions give on a few statements.
 use Rattle.std.proofs.Common.{◌≡◌, ◌^◌, true, [], ◌∷◌, refl}
 use Rattle.std.specs.Prelude.{codes}
-use Rattle.ql_parse.specs.declared.statement.RowSource.TheVariants as rows
-use Rattle.ql_parse.specs.declared.statement.Statement.TheVariants as s
-use Rattle.ql_parse.specs.declared.syntax.Expr.TheVariants as e
+use Rattle.ql_syntax.specs.declared.statement.RowSource.TheVariants as rows
+use Rattle.ql_syntax.specs.declared.statement.Statement.TheVariants as s
+use Rattle.ql_syntax.specs.declared.syntax.Expr.TheVariants as e
 use Rattle.ql_value.specs.declared.refusal.TheConstants.{NO_TABLE}
 use Rattle.ql_rel.specs.Answers.{refused_at}
 use Rattle.ql_rel.specs.Effect.{effect, later}

@@ -3,13 +3,13 @@ use Rattle.std.proofs.Common.{◌≡◌, ℕ, Bool, List, Option, map, sym, ap, 
 use Rattle.ql_value.specs.declared.operator.BinOp.{BinOp}
 use Rattle.ql_value.specs.declared.operator.UnOp.{UnOp}
 use Rattle.ql_value.specs.declared.value.Kind.{Kind}
-use Rattle.ql_parse.specs.declared.syntax.Expr.{Expr}
-use Rattle.ql_parse.specs.declared.syntax.Expr.TheVariants as e
-use Rattle.ql_parse.specs.declared.syntax.Expr.TheOpen.{Expr-F}
-use Rattle.ql_parse.specs.declared.syntax.Expr.TheFolds.{fold-roll-Expr, fold-roll-Link}
-use Rattle.ql_parse.specs.declared.syntax.Function.{Function}
-use Rattle.ql_parse.specs.declared.syntax.Link.{Link, roll-Link}
-use Rattle.ql_parse.specs.declared.syntax.Select.{Select}
+use Rattle.ql_syntax.specs.declared.syntax.Expr.{Expr}
+use Rattle.ql_syntax.specs.declared.syntax.Expr.TheVariants as e
+use Rattle.ql_syntax.specs.declared.syntax.Expr.TheOpen.{Expr-F}
+use Rattle.ql_syntax.specs.declared.syntax.Expr.TheFolds.{fold-roll-Expr, fold-roll-Link}
+use Rattle.ql_syntax.specs.declared.syntax.Function.{Function}
+use Rattle.ql_syntax.specs.declared.syntax.Link.{Link, roll-Link}
+use Rattle.ql_syntax.specs.declared.syntax.Select.{Select}
 use Rattle.ql_rel.specs.Scopes.{Scope}
 use Rattle.ql_rel.specs.Types.{Judged, JudgedLink, expr_step, link_step, judge, judge_link}
 

@@ -2,18 +2,18 @@
 use Rattle.std.proofs.Common.{◌≡◌, ℕ, Bool, true, false, if◌then◌else◌, inl, inr, List, [], ◌∷◌, map, Option, None, Some, Ok, sym, subst}
 use Rattle.ql_value.specs.declared.value.Kind.TheVariants as k
 use Rattle.ql_value.specs.declared.value.Value.TheVariants as v
-use Rattle.ql_parse.specs.declared.syntax.Expr.{Expr, map-Expr, roll-Expr}
-use Rattle.ql_parse.specs.declared.syntax.Expr.TheOpen.{Expr-F, Link-F}
-use Rattle.ql_parse.specs.declared.syntax.Expr.TheFolds.{fold-roll-Expr, fold-roll-Link, ind-Expr}
-use Rattle.ql_parse.specs.declared.syntax.Field.{Field}
-use Rattle.ql_parse.specs.declared.syntax.FromSet.{FromSet}
-use Rattle.ql_parse.specs.declared.syntax.Function.{Function}
-use Rattle.ql_parse.specs.declared.syntax.Join.{Join}
-use Rattle.ql_parse.specs.declared.syntax.Link.{Link, roll-Link}
-use Rattle.ql_parse.specs.declared.syntax.Select.{Select}
-use Rattle.ql_parse.specs.declared.syntax.SetSource.{SetSource}
-use Rattle.ql_parse.specs.declared.typed.Typed.TheVariants as t
-use Rattle.ql_parse.specs.Typing.{Typing, only_null, of_kind}
+use Rattle.ql_syntax.specs.declared.syntax.Expr.{Expr, map-Expr, roll-Expr}
+use Rattle.ql_syntax.specs.declared.syntax.Expr.TheOpen.{Expr-F, Link-F}
+use Rattle.ql_syntax.specs.declared.syntax.Expr.TheFolds.{fold-roll-Expr, fold-roll-Link, ind-Expr}
+use Rattle.ql_syntax.specs.declared.syntax.Field.{Field}
+use Rattle.ql_syntax.specs.declared.syntax.FromSet.{FromSet}
+use Rattle.ql_syntax.specs.declared.syntax.Function.{Function}
+use Rattle.ql_syntax.specs.declared.syntax.Join.{Join}
+use Rattle.ql_syntax.specs.declared.syntax.Link.{Link, roll-Link}
+use Rattle.ql_syntax.specs.declared.syntax.Select.{Select}
+use Rattle.ql_syntax.specs.declared.syntax.SetSource.{SetSource}
+use Rattle.ql_syntax.specs.declared.typed.Typed.TheVariants as t
+use Rattle.ql_syntax.specs.Typing.{Typing, only_null, of_kind}
 use Rattle.ql_rel.specs.Answers.{Answer, then_with, refused}
 use Rattle.ql_rel.specs.Checked.{Checked, known, literal_of, bracketed}
 use Rattle.ql_rel.specs.Operands.{front_of, whole, chained, prefixed, in_list, between, null_test}

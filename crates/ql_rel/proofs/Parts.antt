@@ -4,12 +4,12 @@ use Rattle.ql_value.specs.declared.operator.UnOp.{UnOp}
 use Rattle.ql_value.specs.declared.operator.UnOp.TheVariants as un
 use Rattle.ql_value.specs.declared.value.Kind.{Kind}
 use Rattle.ql_value.specs.declared.value.Kind.TheVariants as k
-use Rattle.ql_parse.specs.Kinds.{is_integer}
-use Rattle.ql_parse.specs.declared.syntax.Function.{Function}
-use Rattle.ql_parse.specs.declared.syntax.Function.TheVariants as f
-use Rattle.ql_parse.specs.declared.typed.Typed.{Typed}
-use Rattle.ql_parse.specs.declared.typed.Typed.TheVariants as t
-use Rattle.ql_parse.specs.Typing.{Typing, only_null, of_kind, ill, IsTyped, among, given_type, truth_of, meet_all, prefix_type, prefixed_type, converts, call_type}
+use Rattle.ql_syntax.specs.Kinds.{is_integer}
+use Rattle.ql_syntax.specs.declared.syntax.Function.{Function}
+use Rattle.ql_syntax.specs.declared.syntax.Function.TheVariants as f
+use Rattle.ql_syntax.specs.declared.typed.Typed.{Typed}
+use Rattle.ql_syntax.specs.declared.typed.Typed.TheVariants as t
+use Rattle.ql_syntax.specs.Typing.{Typing, only_null, of_kind, ill, IsTyped, among, given_type, truth_of, meet_all, prefix_type, prefixed_type, converts, call_type}
 use Rattle.ql_rel.specs.Answers.{then_with, refused}
 use Rattle.ql_rel.specs.Checked.{Literal, Checked, known, literal_of, meet_type, ruled}
 use Rattle.ql_rel.specs.Operands.{under, signed, prefixed, prefixed_by, ends_with_minus, but_last, first_kind, meet_each, types, trees, truth, in_list, null_test}

@@ -1,7 +1,7 @@
 -- A name that means a place has the type of the place.
 use Rattle.std.proofs.Common.{◌≡◌, ℕ, suc, Bool, true, false, ◌&&◌, if◌then◌else◌, List, [], ◌∷◌, Option, None, Some, Ok, subst, ◌∙◌}
-use Rattle.ql_parse.specs.declared.typed.Typed.TheVariants as t
-use Rattle.ql_parse.specs.Typing.{Typing, IsTyped, place_type}
+use Rattle.ql_syntax.specs.declared.typed.Typed.TheVariants as t
+use Rattle.ql_syntax.specs.Typing.{Typing, IsTyped, place_type}
 use Rattle.ql_rel.specs.Answers.{Answer}
 use Rattle.ql_rel.specs.Checked.{Checked, known}
 use Rattle.ql_rel.specs.Scopes.{Slot, Scope, Found, found, the_one, first_some, written, is_of_set, is_of_column, column_place, id_place, id_place_of}

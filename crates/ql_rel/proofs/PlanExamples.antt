@@ -4,22 +4,22 @@ use Rattle.std.specs.Prelude.{codes}
 use Rattle.ql_value.specs.declared.value.Kind.{Kind}
 use Rattle.ql_value.specs.declared.value.Kind.TheVariants as k
 use Rattle.ql_value.specs.declared.value.Value.TheVariants as v
-use Rattle.ql_parse.specs.declared.statement.ColumnDef.{ColumnDef}
-use Rattle.ql_parse.specs.declared.statement.Statement.TheVariants as s
-use Rattle.ql_parse.specs.declared.syntax.Expr.TheOpen.{SetSource-F}
-use Rattle.ql_parse.specs.declared.syntax.Expr.TheVariants as e
-use Rattle.ql_parse.specs.declared.syntax.FromSet.{roll-FromSet}
-use Rattle.ql_parse.specs.declared.syntax.Function.{Function}
-use Rattle.ql_parse.specs.declared.syntax.Function.TheVariants as f
-use Rattle.ql_parse.specs.declared.syntax.Join.{Join}
-use Rattle.ql_parse.specs.declared.syntax.Select.{Select, out-Select}
-use Rattle.ql_parse.specs.declared.syntax.SetSource.TheVariants as source
-use Rattle.ql_parse.specs.declared.typed.Typed.{Typed}
-use Rattle.ql_parse.specs.declared.typed.Typed.TheOpen.{Typed-F}
-use Rattle.ql_parse.specs.declared.typed.Typed.TheFolds.{fold-roll-Typed}
-use Rattle.ql_parse.specs.declared.typed.Typed.TheVariants as t
-use Rattle.ql_parse.specs.Kinds.{is_integer, is_truth}
-use Rattle.ql_parse.specs.Typing.{Typing, of_kind, ill, among, meet, place_type}
+use Rattle.ql_syntax.specs.declared.statement.ColumnDef.{ColumnDef}
+use Rattle.ql_syntax.specs.declared.statement.Statement.TheVariants as s
+use Rattle.ql_syntax.specs.declared.syntax.Expr.TheOpen.{SetSource-F}
+use Rattle.ql_syntax.specs.declared.syntax.Expr.TheVariants as e
+use Rattle.ql_syntax.specs.declared.syntax.FromSet.{roll-FromSet}
+use Rattle.ql_syntax.specs.declared.syntax.Function.{Function}
+use Rattle.ql_syntax.specs.declared.syntax.Function.TheVariants as f
+use Rattle.ql_syntax.specs.declared.syntax.Join.{Join}
+use Rattle.ql_syntax.specs.declared.syntax.Select.{Select, out-Select}
+use Rattle.ql_syntax.specs.declared.syntax.SetSource.TheVariants as source
+use Rattle.ql_syntax.specs.declared.typed.Typed.{Typed}
+use Rattle.ql_syntax.specs.declared.typed.Typed.TheOpen.{Typed-F}
+use Rattle.ql_syntax.specs.declared.typed.Typed.TheFolds.{fold-roll-Typed}
+use Rattle.ql_syntax.specs.declared.typed.Typed.TheVariants as t
+use Rattle.ql_syntax.specs.Kinds.{is_integer, is_truth}
+use Rattle.ql_syntax.specs.Typing.{Typing, of_kind, ill, among, meet, place_type}
 use Rattle.ql_rel.specs.declared.plan.Plan.{Plan}
 use Rattle.ql_rel.specs.declared.schema.Schema.{Schema}
 use Rattle.ql_rel.specs.Aggregates.{has_aggregate, aggregate_step, aggregate_link}

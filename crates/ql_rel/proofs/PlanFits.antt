@@ -1,10 +1,10 @@
 -- The expressions of a plan have types.
 use Rattle.std.proofs.Common.{◌≡◌, ℕ, Bool, true, false, List, [], ◌∷◌, Option, Some, None, IfSome, Ok, sym, subst, ◌∙◌}
 use Rattle.ql_value.specs.declared.value.Kind.{Kind}
-use Rattle.ql_parse.specs.Typing.{Typing, IsTyped, among, type_of}
-use Rattle.ql_parse.specs.declared.syntax.Expr.{Expr}
-use Rattle.ql_parse.specs.declared.syntax.Field.{Field, out-Field}
-use Rattle.ql_parse.specs.declared.typed.Typed.{Typed}
+use Rattle.ql_syntax.specs.Typing.{Typing, IsTyped, among, type_of}
+use Rattle.ql_syntax.specs.declared.syntax.Expr.{Expr}
+use Rattle.ql_syntax.specs.declared.syntax.Field.{Field, out-Field}
+use Rattle.ql_syntax.specs.declared.typed.Typed.{Typed}
 use Rattle.ql_rel.specs.Answers.{then_with}
 use Rattle.ql_rel.specs.Checked.{Checked, ruled}
 use Rattle.ql_rel.specs.Scopes.{Scope}

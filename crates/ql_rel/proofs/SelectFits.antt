@@ -1,18 +1,18 @@
 -- The plan of a SELECT keeps what is promised of its types.
 use Rattle.std.proofs.Common.{◌≡◌, ℕ, suc, Bool, true, false, ◌||◌, if◌then◌else◌, inl, inr, List, [], ◌∷◌, ◌++◌, map, length, Option, Some, None, IfSome, Ok, refl, sym, ap, subst, ◌∙◌, append_assoc, append-nil}
-use Rattle.ql_parse.specs.Kinds.{is_integer, is_truth}
-use Rattle.ql_parse.specs.Typing.{Typing, IsTyped, among, type_of, place_type}
-use Rattle.ql_parse.specs.declared.statement.ColumnDef.{ColumnDef}
-use Rattle.ql_parse.specs.declared.statement.Statement.{Statement}
-use Rattle.ql_parse.specs.declared.statement.Statement.TheVariants as s
-use Rattle.ql_parse.specs.declared.syntax.Expr.{Expr}
-use Rattle.ql_parse.specs.declared.syntax.Expr.TheOpen.{SetSource-F}
-use Rattle.ql_parse.specs.declared.syntax.Field.{Field}
-use Rattle.ql_parse.specs.declared.syntax.FromSet.{FromSet, out-FromSet}
-use Rattle.ql_parse.specs.declared.syntax.Join.{Join}
-use Rattle.ql_parse.specs.declared.syntax.Link.{Link}
-use Rattle.ql_parse.specs.declared.syntax.Select.{Select, out-Select}
-use Rattle.ql_parse.specs.declared.syntax.SetSource.{SetSource, out-SetSource}
+use Rattle.ql_syntax.specs.Kinds.{is_integer, is_truth}
+use Rattle.ql_syntax.specs.Typing.{Typing, IsTyped, among, type_of, place_type}
+use Rattle.ql_syntax.specs.declared.statement.ColumnDef.{ColumnDef}
+use Rattle.ql_syntax.specs.declared.statement.Statement.{Statement}
+use Rattle.ql_syntax.specs.declared.statement.Statement.TheVariants as s
+use Rattle.ql_syntax.specs.declared.syntax.Expr.{Expr}
+use Rattle.ql_syntax.specs.declared.syntax.Expr.TheOpen.{SetSource-F}
+use Rattle.ql_syntax.specs.declared.syntax.Field.{Field}
+use Rattle.ql_syntax.specs.declared.syntax.FromSet.{FromSet, out-FromSet}
+use Rattle.ql_syntax.specs.declared.syntax.Join.{Join}
+use Rattle.ql_syntax.specs.declared.syntax.Link.{Link}
+use Rattle.ql_syntax.specs.declared.syntax.Select.{Select, out-Select}
+use Rattle.ql_syntax.specs.declared.syntax.SetSource.{SetSource, out-SetSource}
 use Rattle.ql_rel.specs.declared.plan.Plan.{Plan}
 use Rattle.ql_rel.specs.declared.schema.Schema.{Schema}
 use Rattle.ql_rel.specs.declared.schema.TableSchema.{TableSchema}

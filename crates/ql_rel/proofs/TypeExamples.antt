@@ -8,12 +8,12 @@ use Rattle.ql_value.specs.declared.operator.UnOp.TheVariants as un
 use Rattle.ql_value.specs.declared.value.Kind.{Kind}
 use Rattle.ql_value.specs.declared.value.Kind.TheVariants as k
 use Rattle.ql_value.specs.declared.value.Value.TheVariants as v
-use Rattle.ql_parse.specs.declared.syntax.Expr.TheOpen.{Expr-F}
-use Rattle.ql_parse.specs.declared.syntax.Function.{Function}
-use Rattle.ql_parse.specs.declared.syntax.Function.TheVariants as f
-use Rattle.ql_parse.specs.declared.typed.Typed.{Typed}
-use Rattle.ql_parse.specs.declared.typed.Typed.TheVariants as t
-use Rattle.ql_parse.specs.Typing.{Typing, only_null, of_kind}
+use Rattle.ql_syntax.specs.declared.syntax.Expr.TheOpen.{Expr-F}
+use Rattle.ql_syntax.specs.declared.syntax.Function.{Function}
+use Rattle.ql_syntax.specs.declared.syntax.Function.TheVariants as f
+use Rattle.ql_syntax.specs.declared.typed.Typed.{Typed}
+use Rattle.ql_syntax.specs.declared.typed.Typed.TheVariants as t
+use Rattle.ql_syntax.specs.Typing.{Typing, only_null, of_kind}
 use Rattle.ql_rel.specs.Answers.{Answer, refused, refused_at}
 use Rattle.ql_rel.specs.Scopes.{Slot, Scope}
 use Rattle.ql_rel.specs.Checked.{Checked, known}

@@ -1,14 +1,14 @@
 -- Whether an aggregate stands in an expression.
 use Rattle.std.specs.Prelude.{Bool, true, false, ◌||◌, List, [], ◌∷◌, map}
-use Rattle.ql_parse.specs.declared.syntax.Expr.{Expr}
-use Rattle.ql_parse.specs.declared.syntax.Expr.TheOpen.{Expr-F, Link-F}
-use Rattle.ql_parse.specs.declared.syntax.Expr.TheFolds.{fold-Expr, fold-Link}
-use Rattle.ql_parse.specs.declared.syntax.Field.{Field, out-Field}
-use Rattle.ql_parse.specs.declared.syntax.Link.{Link}
-use Rattle.ql_parse.specs.declared.typed.Typed.{Typed}
-use Rattle.ql_parse.specs.declared.typed.TypedLink.{TypedLink}
-use Rattle.ql_parse.specs.declared.typed.Typed.TheOpen.{Typed-F, TypedLink-F}
-use Rattle.ql_parse.specs.declared.typed.Typed.TheFolds.{fold-Typed, fold-TypedLink}
+use Rattle.ql_syntax.specs.declared.syntax.Expr.{Expr}
+use Rattle.ql_syntax.specs.declared.syntax.Expr.TheOpen.{Expr-F, Link-F}
+use Rattle.ql_syntax.specs.declared.syntax.Expr.TheFolds.{fold-Expr, fold-Link}
+use Rattle.ql_syntax.specs.declared.syntax.Field.{Field, out-Field}
+use Rattle.ql_syntax.specs.declared.syntax.Link.{Link}
+use Rattle.ql_syntax.specs.declared.typed.Typed.{Typed}
+use Rattle.ql_syntax.specs.declared.typed.TypedLink.{TypedLink}
+use Rattle.ql_syntax.specs.declared.typed.Typed.TheOpen.{Typed-F, TypedLink-F}
+use Rattle.ql_syntax.specs.declared.typed.Typed.TheFolds.{fold-Typed, fold-TypedLink}
 use Rattle.ql_rel.specs.Calls.{is_aggregate}
 
 -- one of them is true

@@ -1,7 +1,7 @@
 -- What a statement does to tables and shows.
 use Rattle.std.specs.Prelude.{ℕ, false, ◌||◌, if◌then◌else◌, nat_le, List, [], ◌∷◌, ◌++◌, length, find, is_some, Option, Some, None, Ok}
-use Rattle.ql_parse.specs.declared.statement.Statement.{Statement}
-use Rattle.ql_parse.specs.declared.statement.Statement.TheVariants as s
+use Rattle.ql_syntax.specs.declared.statement.Statement.{Statement}
+use Rattle.ql_syntax.specs.declared.statement.Statement.TheVariants as s
 use Rattle.ql_value.specs.declared.refusal.TheConstants.{NO_TABLE, EXISTS, LATER}
 use Rattle.ql_rel.specs.Answers.{refused, refused_at, then_with}
 use Rattle.ql_rel.specs.Forms.{is_internal, sole_column, inserted_numbers, shown_table, is_of_expressions}

@@ -2,20 +2,20 @@
 use Rattle.std.specs.Prelude.{ℕ, ◌^◌, Bool, true, false, ◌&&◌, ◌==◌, not, nat_lt, if◌then◌else◌, List, [], ◌∷◌, length, slice_index, Option, Some, None, option_map, is_none}
 use Rattle.ql_value.specs.declared.value.Kind.{Kind}
 use Rattle.ql_value.specs.declared.value.Kind.TheVariants as kind
-use Rattle.ql_parse.specs.declared.statement.ColumnDef.{ColumnDef}
-use Rattle.ql_parse.specs.declared.statement.RowSource.{RowSource}
-use Rattle.ql_parse.specs.declared.statement.RowSource.TheVariants as rows
-use Rattle.ql_parse.specs.declared.statement.Statement.{Statement}
-use Rattle.ql_parse.specs.declared.statement.Statement.TheVariants as s
-use Rattle.ql_parse.specs.declared.syntax.Expr.{Expr}
-use Rattle.ql_parse.specs.declared.syntax.Expr.TheVariants as e
-use Rattle.ql_parse.specs.declared.syntax.Expr.TheOpen.{SetSource-F}
-use Rattle.ql_parse.specs.declared.syntax.Field.{Field}
-use Rattle.ql_parse.specs.declared.syntax.FromSet.{FromSet, out-FromSet}
-use Rattle.ql_parse.specs.declared.syntax.Join.{Join}
-use Rattle.ql_parse.specs.declared.syntax.Link.{Link}
-use Rattle.ql_parse.specs.declared.syntax.Select.{Select, out-Select}
-use Rattle.ql_parse.specs.declared.syntax.SetSource.{SetSource, out-SetSource}
+use Rattle.ql_syntax.specs.declared.statement.ColumnDef.{ColumnDef}
+use Rattle.ql_syntax.specs.declared.statement.RowSource.{RowSource}
+use Rattle.ql_syntax.specs.declared.statement.RowSource.TheVariants as rows
+use Rattle.ql_syntax.specs.declared.statement.Statement.{Statement}
+use Rattle.ql_syntax.specs.declared.statement.Statement.TheVariants as s
+use Rattle.ql_syntax.specs.declared.syntax.Expr.{Expr}
+use Rattle.ql_syntax.specs.declared.syntax.Expr.TheVariants as e
+use Rattle.ql_syntax.specs.declared.syntax.Expr.TheOpen.{SetSource-F}
+use Rattle.ql_syntax.specs.declared.syntax.Field.{Field}
+use Rattle.ql_syntax.specs.declared.syntax.FromSet.{FromSet, out-FromSet}
+use Rattle.ql_syntax.specs.declared.syntax.Join.{Join}
+use Rattle.ql_syntax.specs.declared.syntax.Link.{Link}
+use Rattle.ql_syntax.specs.declared.syntax.Select.{Select, out-Select}
+use Rattle.ql_syntax.specs.declared.syntax.SetSource.{SetSource, out-SetSource}
 use Rattle.ql_rel.specs.Aggregates.{any_field_calls_aggregate}
 
 -- the name begins with `__`, and is kept for the program

@@ -1,7 +1,7 @@
 -- What statements in turn show, and how they end.
 use Rattle.std.specs.Prelude.{ℕ, ◌+◌, List, [], ◌∷◌, ◌++◌, Ok, Err}
 use Rattle.ql_value.specs.declared.refusal.Refusal.{Refusal}
-use Rattle.ql_parse.specs.declared.statement.Statement.{Statement}
+use Rattle.ql_syntax.specs.declared.statement.Statement.{Statement}
 use Rattle.ql_rel.specs.Effect.{effect}
 use Rattle.ql_rel.specs.Tables.{Table, Effect}
 

@@ -1,16 +1,16 @@
 -- What a plan promises of the types of its expressions.
 use Rattle.std.specs.Prelude.{◌≡◌, Bool, true, false, not, List, [], ◌∷◌, ◌++◌, map, Option, Some, None, option_map, IfSome, Ok, Err}
 use Rattle.ql_value.specs.declared.value.Kind.TheVariants as k
-use Rattle.ql_parse.specs.Kinds.{is_integer, is_truth}
-use Rattle.ql_parse.specs.Typing.{Typing, only_null, of_kind, ill, IsTyped, among, given_type, meet, StepType, type_of, type_step}
-use Rattle.ql_parse.specs.declared.syntax.Function.{Function}
-use Rattle.ql_parse.specs.declared.syntax.Function.TheVariants as f
-use Rattle.ql_parse.specs.declared.statement.Statement.{Statement}
-use Rattle.ql_parse.specs.declared.statement.Statement.TheVariants as s
-use Rattle.ql_parse.specs.declared.syntax.Select.{out-Select}
-use Rattle.ql_parse.specs.declared.typed.Typed.{Typed, map-Typed}
-use Rattle.ql_parse.specs.declared.typed.Typed.TheOpen.{Typed-F, TypedLink-F}
-use Rattle.ql_parse.specs.declared.typed.Typed.TheFolds.{fold-Typed}
+use Rattle.ql_syntax.specs.Kinds.{is_integer, is_truth}
+use Rattle.ql_syntax.specs.Typing.{Typing, only_null, of_kind, ill, IsTyped, among, given_type, meet, StepType, type_of, type_step}
+use Rattle.ql_syntax.specs.declared.syntax.Function.{Function}
+use Rattle.ql_syntax.specs.declared.syntax.Function.TheVariants as f
+use Rattle.ql_syntax.specs.declared.statement.Statement.{Statement}
+use Rattle.ql_syntax.specs.declared.statement.Statement.TheVariants as s
+use Rattle.ql_syntax.specs.declared.syntax.Select.{out-Select}
+use Rattle.ql_syntax.specs.declared.typed.Typed.{Typed, map-Typed}
+use Rattle.ql_syntax.specs.declared.typed.Typed.TheOpen.{Typed-F, TypedLink-F}
+use Rattle.ql_syntax.specs.declared.typed.Typed.TheFolds.{fold-Typed}
 use Rattle.ql_rel.specs.declared.plan.Plan.{Plan}
 use Rattle.ql_rel.specs.declared.schema.Schema.{Schema}
 use Rattle.ql_rel.specs.Answers.{Answer}

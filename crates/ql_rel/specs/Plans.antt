@@ -5,21 +5,21 @@ use Rattle.ql_value.specs.declared.refusal.TheConstants.{NO_TABLE}
 use Rattle.ql_value.specs.declared.refusal.TheConstants.{AMBIGUOUS, COUNT, LATER}
 use Rattle.ql_value.specs.declared.value.Kind.{Kind}
 use Rattle.ql_value.specs.declared.value.Kind.TheVariants as k
-use Rattle.ql_parse.specs.declared.statement.ColumnDef.{ColumnDef}
-use Rattle.ql_parse.specs.declared.statement.Statement.{Statement}
-use Rattle.ql_parse.specs.declared.statement.Statement.TheVariants as s
-use Rattle.ql_parse.specs.declared.syntax.Expr.{Expr}
-use Rattle.ql_parse.specs.declared.syntax.Expr.TheOpen.{SetSource-F}
-use Rattle.ql_parse.specs.declared.syntax.Field.{Field, out-Field}
-use Rattle.ql_parse.specs.declared.syntax.FromSet.{FromSet, out-FromSet}
-use Rattle.ql_parse.specs.declared.syntax.Join.{Join}
-use Rattle.ql_parse.specs.declared.syntax.Link.{Link}
-use Rattle.ql_parse.specs.declared.syntax.Select.{Select, out-Select}
-use Rattle.ql_parse.specs.declared.syntax.SetSource.{SetSource, out-SetSource}
-use Rattle.ql_parse.specs.declared.typed.Typed.{Typed}
-use Rattle.ql_parse.specs.declared.typed.Typed.TheVariants as t
-use Rattle.ql_parse.specs.Kinds.{is_integer, is_truth}
-use Rattle.ql_parse.specs.Typing.{Typing, of_kind, among}
+use Rattle.ql_syntax.specs.declared.statement.ColumnDef.{ColumnDef}
+use Rattle.ql_syntax.specs.declared.statement.Statement.{Statement}
+use Rattle.ql_syntax.specs.declared.statement.Statement.TheVariants as s
+use Rattle.ql_syntax.specs.declared.syntax.Expr.{Expr}
+use Rattle.ql_syntax.specs.declared.syntax.Expr.TheOpen.{SetSource-F}
+use Rattle.ql_syntax.specs.declared.syntax.Field.{Field, out-Field}
+use Rattle.ql_syntax.specs.declared.syntax.FromSet.{FromSet, out-FromSet}
+use Rattle.ql_syntax.specs.declared.syntax.Join.{Join}
+use Rattle.ql_syntax.specs.declared.syntax.Link.{Link}
+use Rattle.ql_syntax.specs.declared.syntax.Select.{Select, out-Select}
+use Rattle.ql_syntax.specs.declared.syntax.SetSource.{SetSource, out-SetSource}
+use Rattle.ql_syntax.specs.declared.typed.Typed.{Typed}
+use Rattle.ql_syntax.specs.declared.typed.Typed.TheVariants as t
+use Rattle.ql_syntax.specs.Kinds.{is_integer, is_truth}
+use Rattle.ql_syntax.specs.Typing.{Typing, of_kind, among}
 use Rattle.ql_rel.specs.declared.plan.Plan.{Plan}
 use Rattle.ql_rel.specs.declared.schema.Schema.{Schema}
 use Rattle.ql_rel.specs.declared.schema.TableSchema.{TableSchema}

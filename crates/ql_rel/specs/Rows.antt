@@ -3,9 +3,9 @@ use Rattle.std.specs.Prelude.{ℕ, if◌then◌else◌, List, [], ◌∷◌, ◌
 use Rattle.ql_value.specs.Print.{printed}
 use Rattle.ql_value.specs.declared.refusal.TheConstants.{LATER, DIVIDE, RANGE, NEGATIVE_COUNT}
 use Rattle.ql_value.specs.declared.value.Value.{Value}
-use Rattle.ql_parse.specs.Values.{Outcome, gives, refuses, means_nothing, divide, range, negative_count, value_at}
-use Rattle.ql_parse.specs.declared.statement.Statement.{Statement}
-use Rattle.ql_parse.specs.declared.typed.Typed.{Typed}
+use Rattle.ql_syntax.specs.Values.{Outcome, gives, refuses, means_nothing, divide, range, negative_count, value_at}
+use Rattle.ql_syntax.specs.declared.statement.Statement.{Statement}
+use Rattle.ql_syntax.specs.declared.typed.Typed.{Typed}
 use Rattle.ql_rel.specs.declared.plan.Plan.{Plan}
 use Rattle.ql_rel.specs.declared.schema.Schema.{Schema}
 use Rattle.ql_rel.specs.Answers.{Answer, refused, then_with, all_of}

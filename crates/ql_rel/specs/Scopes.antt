@@ -2,7 +2,7 @@
 use Rattle.std.specs.Prelude.{ℕ, suc, Bool, true, false, ◌&&◌, if◌then◌else◌, List, [], ◌∷◌, ◌++◌, Option, Some, None, Ok}
 use Rattle.std.specs.Str.{bytes_eq}
 use Rattle.ql_value.specs.declared.refusal.TheConstants.{NO_COLUMN, AMBIGUOUS}
-use Rattle.ql_parse.specs.Typing.{Typing}
+use Rattle.ql_syntax.specs.Typing.{Typing}
 use Rattle.ql_rel.specs.Answers.{Answer, refused_at}
 
 -- a place of a row: the name of its record set, that of its column, which an id has not, and the type of its values

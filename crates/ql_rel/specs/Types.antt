@@ -4,19 +4,19 @@ use Rattle.ql_value.specs.declared.operator.BinOp.{BinOp}
 use Rattle.ql_value.specs.declared.refusal.TheConstants.{TYPE, COUNT, LATER}
 use Rattle.ql_value.specs.declared.value.Kind.TheVariants as k
 use Rattle.ql_value.specs.declared.value.Value.TheVariants as v
-use Rattle.ql_parse.specs.declared.syntax.Expr.{Expr, out-Expr}
-use Rattle.ql_parse.specs.declared.syntax.Expr.TheOpen.{Expr-F, Link-F}
-use Rattle.ql_parse.specs.declared.syntax.Expr.TheFolds.{fold-Expr, fold-Link}
-use Rattle.ql_parse.specs.declared.syntax.Field.{Field}
-use Rattle.ql_parse.specs.declared.syntax.FromSet.{FromSet}
-use Rattle.ql_parse.specs.declared.syntax.Function.{Function}
-use Rattle.ql_parse.specs.declared.syntax.Function.TheVariants as f
-use Rattle.ql_parse.specs.declared.syntax.Join.{Join}
-use Rattle.ql_parse.specs.declared.syntax.Link.{Link}
-use Rattle.ql_parse.specs.declared.syntax.Select.{Select}
-use Rattle.ql_parse.specs.declared.syntax.SetSource.{SetSource}
-use Rattle.ql_parse.specs.declared.typed.Typed.TheVariants as t
-use Rattle.ql_parse.specs.Typing.{only_null, of_kind}
+use Rattle.ql_syntax.specs.declared.syntax.Expr.{Expr, out-Expr}
+use Rattle.ql_syntax.specs.declared.syntax.Expr.TheOpen.{Expr-F, Link-F}
+use Rattle.ql_syntax.specs.declared.syntax.Expr.TheFolds.{fold-Expr, fold-Link}
+use Rattle.ql_syntax.specs.declared.syntax.Field.{Field}
+use Rattle.ql_syntax.specs.declared.syntax.FromSet.{FromSet}
+use Rattle.ql_syntax.specs.declared.syntax.Function.{Function}
+use Rattle.ql_syntax.specs.declared.syntax.Function.TheVariants as f
+use Rattle.ql_syntax.specs.declared.syntax.Join.{Join}
+use Rattle.ql_syntax.specs.declared.syntax.Link.{Link}
+use Rattle.ql_syntax.specs.declared.syntax.Select.{Select}
+use Rattle.ql_syntax.specs.declared.syntax.SetSource.{SetSource}
+use Rattle.ql_syntax.specs.declared.typed.Typed.TheVariants as t
+use Rattle.ql_syntax.specs.Typing.{only_null, of_kind}
 use Rattle.ql_rel.specs.Answers.{Answer, refused, then_with, all_of}
 use Rattle.ql_rel.specs.Scopes.{Scope, Found, column_place, id_place, id_place_of}
 use Rattle.ql_rel.specs.Checked.{Checked, known, literal_of, bracketed}

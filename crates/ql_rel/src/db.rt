@@ -1,6 +1,6 @@
 use crate::schema::Indexes;
 use ql_edge::{Items, Name};
-use ql_parse::ColumnDefs;
+use ql_syntax::ColumnDefs;
 use ql_value::Values;
 
 /// A row of a table: its id, and a value for each column.

@@ -1,5 +1,5 @@
 use ql_edge::{Names0, Numbers};
-use ql_parse::{OptTypeds, Typed, TypedRows, Typeds};
+use ql_syntax::{OptTypeds, Typed, TypedRows, Typeds};
 
 /// A statement whose names are resolved and whose expressions are typed. Parts that the statement does not have are
 /// empty. A row of a SELECT is one list: for each record set its id, then its columns.

@@ -1,5 +1,5 @@
 use ql_edge::{Items, Name};
-use ql_parse::{ColumnDefs, Item};
+use ql_syntax::{ColumnDefs, Item};
 
 /// An index of a table, by a column or by the id of the row. A unique one has no two rows of one value that is not NULL.
 #[derive(Debug, Drop)]

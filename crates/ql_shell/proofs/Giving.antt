@@ -3,7 +3,7 @@ use Rattle.std.proofs.Common.{◌≡◌, ℕ, ◌+◌, List, [], ◌∷◌, ◌+
 use Rattle.std.proofs.lemmas.List.{take_all}
 use Rattle.std.proofs.Math.Seq.{take-append-add}
 use Rattle.ql_edge.specs.Told.{Told, with_shown, shown_of, warned_of, ShowsFront}
-use Rattle.ql_parse.specs.declared.statement.Statement.{Statement}
+use Rattle.ql_syntax.specs.declared.statement.Statement.{Statement}
 use Rattle.ql_value.specs.declared.refusal.Refusal.{Refusal}
 use Rattle.ql_rel.specs.Meaning.{Meaning, preceded, onward, meaning}
 use Rattle.ql_shell.specs.Meaning.{Answer, answered, status_after}

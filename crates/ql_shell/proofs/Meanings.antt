@@ -1,7 +1,7 @@
 -- What words and a script mean, and how a run answers it.
 use Rattle.std.proofs.Common.{◌≡◌, ℕ, ◌<◌, List, [], length, Option, Some, None, Result, Ok, Err, inl, inr, refl, sym, ap, ◌∙◌, arith}
 use Rattle.ql_edge.specs.Told.{Told, with_shown}
-use Rattle.ql_parse.specs.declared.statement.Statement.{Statement}
+use Rattle.ql_syntax.specs.declared.statement.Statement.{Statement}
 use Rattle.ql_shell.specs.Comes.{Comes, too_long, bad_byte, bad_literal, unclosed, unexpected, too_nested, read, read_as}
 use Rattle.ql_rel.specs.Meaning.{meaning}
 use Rattle.ql_shell.specs.Meaning.{Answer, answered, answer_of, told_script, Means, usage, script}

@@ -3,18 +3,18 @@ use Rattle.std.proofs.Common.{◌≡◌, ℕ, ◌+◌, ◌<◌, Bool, true, fals
 use Rattle.std.proofs.lemmas.List.{drop_more}
 use Rattle.std.specs.Prelude.{if◌then◌else◌}
 use Rattle.ql_value.specs.declared.refusal.TheConstants.{LATER}
-use Rattle.ql_parse.specs.Typing.{Typing, IsTyped, WellTyped, type_of}
-use Rattle.ql_parse.specs.declared.statement.Statement.{Statement}
-use Rattle.ql_parse.specs.declared.statement.Statement.TheVariants as s
-use Rattle.ql_parse.specs.declared.syntax.Expr.{Expr}
-use Rattle.ql_parse.specs.declared.syntax.Expr.TheOpen.{SetSource-F}
-use Rattle.ql_parse.specs.declared.syntax.Field.{Field}
-use Rattle.ql_parse.specs.declared.syntax.FromSet.{FromSet, out-FromSet}
-use Rattle.ql_parse.specs.declared.syntax.Join.{Join}
-use Rattle.ql_parse.specs.declared.syntax.Link.{Link}
-use Rattle.ql_parse.specs.declared.syntax.Select.{Select, out-Select}
-use Rattle.ql_parse.specs.declared.syntax.SetSource.{SetSource, out-SetSource}
-use Rattle.ql_parse.specs.declared.typed.Typed.{Typed}
+use Rattle.ql_syntax.specs.Typing.{Typing, IsTyped, WellTyped, type_of}
+use Rattle.ql_syntax.specs.declared.statement.Statement.{Statement}
+use Rattle.ql_syntax.specs.declared.statement.Statement.TheVariants as s
+use Rattle.ql_syntax.specs.declared.syntax.Expr.{Expr}
+use Rattle.ql_syntax.specs.declared.syntax.Expr.TheOpen.{SetSource-F}
+use Rattle.ql_syntax.specs.declared.syntax.Field.{Field}
+use Rattle.ql_syntax.specs.declared.syntax.FromSet.{FromSet, out-FromSet}
+use Rattle.ql_syntax.specs.declared.syntax.Join.{Join}
+use Rattle.ql_syntax.specs.declared.syntax.Link.{Link}
+use Rattle.ql_syntax.specs.declared.syntax.Select.{Select, out-Select}
+use Rattle.ql_syntax.specs.declared.syntax.SetSource.{SetSource, out-SetSource}
+use Rattle.ql_syntax.specs.declared.typed.Typed.{Typed}
 use Rattle.ql_rel.specs.Answers.{Answer, refused, then_with}
 use Rattle.ql_rel.specs.Plans.{add_table, add_source, add_sets, is_metadata, set_name}
 use Rattle.ql_rel.specs.PlanTypes.{AreTyped, types_if, row_types}

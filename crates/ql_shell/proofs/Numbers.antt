@@ -1,7 +1,7 @@
 -- The numbers of rows, read one by one.
 use Rattle.std.proofs.Common.{◌≡◌, ℕ, ◌+◌, ◌<◌, List, [], ◌∷◌, ◌++◌, length, take, drop, get_or, Option, Some, None, option_map, refl, sym, ap, ◌∙◌, append_assoc}
 use Rattle.std.proofs.lemmas.List.{take_more, take-append-drop}
-use Rattle.ql_parse.specs.declared.syntax.Expr.{Expr}
+use Rattle.ql_syntax.specs.declared.syntax.Expr.{Expr}
 use Rattle.ql_rel.specs.Forms.{row_number, row_numbers, with_number}
 
 mapped_none : (ms : Option (List ℕ)) → ms ≡ option_map (λ ns. [] ++ ns) ms

@@ -4,12 +4,12 @@ use Rattle.ql_lex.specs.declared.token.LexFault.{LexFault}
 use Rattle.ql_lex.specs.declared.token.LexFault.TheVariants as lex
 use Rattle.ql_lex.specs.declared.token.Token.{Token}
 use Rattle.ql_lex.specs.Tokens.{Outcome, Reads}
-use Rattle.ql_parse.specs.declared.parse.fault.ParseFault.{ParseFault}
-use Rattle.ql_parse.specs.declared.parse.fault.ParseFault.TheVariants as parse
-use Rattle.ql_parse.specs.declared.statement.Statement.{Statement}
-use Rattle.ql_parse.specs.Lexemes.{lexemes}
-use Rattle.ql_parse.specs.Scripts.{IsUnexpected, IsTooNested}
-use Rattle.ql_parse.specs.Statements.{IsRead}
+use Rattle.ql_parse.specs.declared.fault.ParseFault.{ParseFault}
+use Rattle.ql_parse.specs.declared.fault.ParseFault.TheVariants as parse
+use Rattle.ql_syntax.specs.declared.statement.Statement.{Statement}
+use Rattle.ql_syntax.specs.Lexemes.{lexemes}
+use Rattle.ql_syntax.specs.Scripts.{IsUnexpected, IsTooNested}
+use Rattle.ql_syntax.specs.Statements.{IsRead}
 use Rattle.ql_shell.specs.Cause.{status_of_lexing, status_of_parsing}
 use Rattle.ql_shell.specs.Comes.{Comes, too_long, bad_byte, bad_literal, unclosed, unexpected, too_nested, read, read_as, place_of}
 use Rattle.ql_shell.specs.declared.script_run.TheConstants.{SCRIPT_LIMIT}

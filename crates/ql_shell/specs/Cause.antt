@@ -6,8 +6,8 @@ use Rattle.ql_edge.specs.declared.fault.DeviceFault.TheVariants as device
 use Rattle.ql_lex.specs.declared.token.LexFault.{LexFault}
 use Rattle.ql_lex.specs.declared.token.LexFault.TheVariants as lex
 use Rattle.ql_lex.specs.declared.token.Token.{Token}
-use Rattle.ql_parse.specs.declared.parse.fault.ParseFault.{ParseFault}
-use Rattle.ql_parse.specs.declared.parse.fault.ParseFault.TheVariants as parse
+use Rattle.ql_parse.specs.declared.fault.ParseFault.{ParseFault}
+use Rattle.ql_parse.specs.declared.fault.ParseFault.TheVariants as parse
 use Rattle.ql_shell.specs.Comes.{place_of}
 use Rattle.ql_shell.specs.declared.status.ScriptFault.TheVariants as fault
 use Rattle.ql_shell.specs.declared.status.Status.{Status}

@@ -3,10 +3,10 @@ use Rattle.std.specs.Prelude.{ℕ, ◌<◌, ◌≤◌, List, length, slice_get, 
 use Rattle.ql_lex.specs.declared.token.LexFault.TheVariants as lex
 use Rattle.ql_lex.specs.declared.token.Token.{Token}
 use Rattle.ql_lex.specs.Tokens.{Reads}
-use Rattle.ql_parse.specs.declared.statement.Statement.{Statement}
-use Rattle.ql_parse.specs.Lexemes.{lexemes}
-use Rattle.ql_parse.specs.Scripts.{IsUnexpected, IsTooNested}
-use Rattle.ql_parse.specs.Statements.{IsRead}
+use Rattle.ql_syntax.specs.declared.statement.Statement.{Statement}
+use Rattle.ql_syntax.specs.Lexemes.{lexemes}
+use Rattle.ql_syntax.specs.Scripts.{IsUnexpected, IsTooNested}
+use Rattle.ql_syntax.specs.Statements.{IsRead}
 use Rattle.ql_shell.specs.declared.script_run.TheConstants.{SCRIPT_LIMIT}
 use Rattle.ql_shell.specs.declared.status.ScriptFault.{ScriptFault}
 use Rattle.ql_shell.specs.declared.status.ScriptFault.TheVariants.{TooLong, BadByte, BadLiteral, Unclosed, Unexpected, TooNested}

@@ -1,6 +1,6 @@
 -- What a script is to show and answer.
 use Rattle.std.specs.Prelude.{◌≡◌, ℕ, List, [], Option, Some, None, Result, Ok, Err}
-use Rattle.ql_parse.specs.declared.statement.Statement.{Statement}
+use Rattle.ql_syntax.specs.declared.statement.Statement.{Statement}
 use Rattle.ql_shell.specs.Comes.{Comes}
 use Rattle.ql_rel.specs.Meaning.{Ending, done, stopped, Meaning, meaning}
 use Rattle.ql_shell.specs.declared.status.ScriptFault.{ScriptFault}

@@ -1,9 +1,9 @@
 ghost use Rattle.std.specs.Prelude.{◌≡◌, map};
 ghost use Rattle.ql_rel.specs.Aggregates as spec;
-ghost use Rattle.ql_parse.specs.declared.syntax.Field.{out-Field};
+ghost use Rattle.ql_syntax.specs.declared.syntax.Field.{out-Field};
 
 use ql_check::is_aggregate;
-use ql_parse::{Expr, Exprs, Fields, Link, Links};
+use ql_syntax::{Expr, Exprs, Fields, Link, Links};
 
 /// Whether an aggregate is called in an expression. A SELECT within it is not looked into.
 #[cycle(aggregate)]

@@ -1,6 +1,6 @@
 ghost use Rattle.std.specs.Prelude.{◌≡◌, ◌++◌, [], IfOk, OnOk};
-ghost use Rattle.ql_parse.specs.Typing.{WellTyped, type_of};
-ghost use Rattle.ql_parse.specs.Values.{value_at};
+ghost use Rattle.ql_syntax.specs.Typing.{WellTyped, type_of};
+ghost use Rattle.ql_syntax.specs.Values.{value_at};
 ghost use Rattle.ql_rel.specs.PlanTypes.{AreTyped, PlanTyped};
 ghost use Rattle.ql_rel.specs.Plans.{plan};
 ghost use Rattle.ql_rel.specs.Rows as spec;
@@ -10,7 +10,7 @@ use crate::fault::{StepFault, refused};
 use ql_check::{CheckFault, Plan, check};
 use ql_edge::{Bytes, DeviceFault, NoMemory};
 use ql_eval::{EvalFault, Typed, Typeds, eval};
-use ql_parse::Statement;
+use ql_syntax::Statement;
 use ql_rel::{Indexes, Schema, TableSchemas};
 use ql_value::{DIVIDE, LATER, NEGATIVE_COUNT, RANGE, Value, Values, print_value};
 use std::alloc::Global;

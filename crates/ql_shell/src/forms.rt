@@ -1,12 +1,10 @@
 ghost use Rattle.std.specs.Prelude.{◌≡◌, ◌≢◌, List, MatchOption, IfOk, None, Some, option_map};
-ghost use Rattle.ql_parse.specs.declared.syntax.SetSource.{out-SetSource};
+ghost use Rattle.ql_syntax.specs.declared.syntax.SetSource.{out-SetSource};
 ghost use Rattle.ql_rel.specs.Forms as spec;
 
 use crate::aggregate::any_field_calls_aggregate;
 use ql_edge::{Name, Names, NoMemory, Numbers};
-use ql_parse::{
-    ColumnDef, ColumnDefs, Expr, Exprs, FromSet, FromSets, RowSource, Select, SetSource, Statement,
-};
+use ql_syntax::{ColumnDef, ColumnDefs, Expr, Exprs, FromSet, FromSets, RowSource, Select, SetSource, Statement};
 use ql_value::Kind;
 use std::alloc::Global;
 

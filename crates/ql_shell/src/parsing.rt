@@ -1,5 +1,5 @@
 ghost use Rattle.std.specs.Prelude.{◌≡◌, ◌⊎◌, ◌≤◌, List, Result, Ok, Err, IfOk, IfErr, length, map, get_or};
-ghost use Rattle.ql_parse.specs.declared.statement.Statement.{Statement};
+ghost use Rattle.ql_syntax.specs.declared.statement.Statement.{Statement};
 ghost use Rattle.ql_shell.specs.Cause.{status_of_lexing, status_of_parsing};
 ghost use Rattle.ql_shell.specs.Comes as spec;
 ghost use Rattle.ql_shell.specs.Comes.{Comes, read_as};
@@ -10,7 +10,8 @@ ghost use Rattle.ql_shell.specs.declared.status.Status.TheVariants as status;
 
 use crate::status::{ScriptFault, Status};
 use ql_lex::{LexFault, Tokens, tokens};
-use ql_parse::{ParseFault, Statements, script};
+use ql_parse::{ParseFault, script};
+use ql_syntax::Statements;
 use std::alloc::Global;
 
 /// The status of a run whose script has no tokens.

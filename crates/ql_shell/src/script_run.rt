@@ -2,7 +2,7 @@ ghost use Rattle.std.specs.Prelude.{◌≡◌, ◌⊎◌, ℕ, ◌<◌, ◌≤�
 ghost use Rattle.std.specs.String.{string_bytes};
 ghost use Rattle.ql_edge.specs.Cause.{Rose};
 ghost use Rattle.ql_edge.specs.Told.{shown_of, warned_of};
-ghost use Rattle.ql_parse.specs.declared.statement.Statement.{Statement};
+ghost use Rattle.ql_syntax.specs.declared.statement.Statement.{Statement};
 ghost use Rattle.ql_shell.specs.Cause.{IsCausedReading, IsCausedStatus, stopped_by};
 ghost use Rattle.ql_shell.specs.Comes.{Comes};
 ghost use Rattle.ql_rel.specs.Meaning.{meaning};
@@ -23,7 +23,7 @@ use crate::step::step;
 use crate::tables::Tables;
 use crate::words::{Command, read_words};
 use ql_edge::{Bytes, Machine, Shows};
-use ql_parse::Statements;
+use ql_syntax::Statements;
 use std::alloc::Global;
 
 /// How many bytes a script has at most.

@@ -1,5 +1,5 @@
 use Rattle.std.proofs.Common.{◌≡◌, map, drop}
-use Rattle.ql_parse.specs.Typing as types
+use Rattle.ql_syntax.specs.Typing as types
 use Rattle.ql_rel.specs.Operands as spec
 use Rattle.ql_check.specs.Plain.{plain, typing_of}
 use Rattle.ql_check.proofs.parts.meet_all.Given as goal

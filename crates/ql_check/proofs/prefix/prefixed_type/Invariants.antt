@@ -1,5 +1,5 @@
 use Rattle.std.proofs.Common.{◌≡◌, length}
-use Rattle.ql_parse.specs.Typing as types
+use Rattle.ql_syntax.specs.Typing as types
 use Rattle.ql_check.specs.Plain.{typing_of}
 use Rattle.ql_check.proofs.prefix.prefixed_type.Given as goal
 

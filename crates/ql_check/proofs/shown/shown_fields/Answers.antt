@@ -1,6 +1,6 @@
 -- One field more.
 use Rattle.std.proofs.Common.{◌≡◌, ◌<◌, subst, length, get_or}
-use Rattle.ql_parse.specs.declared.syntax.Field.{out-Field}
+use Rattle.ql_syntax.specs.declared.syntax.Field.{out-Field}
 use Rattle.ql_rel.specs.Plans as spec
 use Rattle.ql_check.specs.Names.{plain_scope}
 use Rattle.ql_check.specs.Outputs.{plain_shown}

@@ -1,6 +1,6 @@
 -- The place is within the row, and the value there is copied.
 use Rattle.std.proofs.Common.{◌∙◌, sym, ap}
-use Rattle.ql_parse.specs.Values as spec
+use Rattle.ql_syntax.specs.Values as spec
 use Rattle.ql_eval.proofs.Places.{within, placed_is}
 use Rattle.ql_eval.proofs.convert.placed.Goals as goal
 

@@ -1,6 +1,6 @@
 -- The parts of a call.
 use Rattle.std.proofs.Common.{get_or, sym, ap, subst, ◌∙◌}
-use Rattle.ql_parse.specs.Values as spec
+use Rattle.ql_syntax.specs.Values as spec
 use Rattle.ql_eval.specs.Gives.{Gives}
 use Rattle.ql_eval.specs.Question.{test_of}
 use Rattle.ql_eval.proofs.Calls.{only_part, two_parts}

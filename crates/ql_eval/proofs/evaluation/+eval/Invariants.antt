@@ -1,5 +1,5 @@
 use Rattle.std.proofs.Common.{◌≡◌, map, drop}
-use Rattle.ql_parse.specs.Values as spec
+use Rattle.ql_syntax.specs.Values as spec
 use Rattle.ql_eval.proofs.evaluation.+eval.Given as goal
 
 -- the links that are left, behind the value so far, come to what the whole chain comes to

@@ -1,6 +1,6 @@
 use Rattle.std.proofs.Common.{◌≡◌, []}
 use Rattle.ql_value.specs.declared.value.Kind.TheVariants as k
-use Rattle.ql_parse.specs.Typing.{of_kind, type_of}
+use Rattle.ql_syntax.specs.Typing.{of_kind, type_of}
 use Rattle.ql_eval.proofs.tests.nested.Given as goal
 
 abbrev pub invariant-loop : goal.invariant-loop

@@ -1,7 +1,7 @@
 -- One value more.
 use Rattle.std.proofs.Common.{◌≡◌, ◌<◌, [], subst, length, get_or}
-use Rattle.ql_parse.specs.Typing.{type_of}
-use Rattle.ql_parse.specs.Values.{value_at}
+use Rattle.ql_syntax.specs.Typing.{type_of}
+use Rattle.ql_syntax.specs.Values.{value_at}
 use Rattle.ql_rel.specs.Rows.{answer_of}
 use Rattle.ql_check.proofs.Turns.{turn_same}
 use Rattle.ql_shell.proofs.NoTables.{next_typed}

@@ -1,5 +1,5 @@
 use Rattle.std.proofs.Common.{◌≡◌, [], drop}
-use Rattle.ql_parse.specs.Typing.{type_of}
+use Rattle.ql_syntax.specs.Typing.{type_of}
 use Rattle.ql_rel.specs.PlanTypes.{AreTyped}
 use Rattle.ql_rel.specs.Rows as spec
 use Rattle.ql_check.proofs.Turns.{behind}

@@ -1,0 +1,10 @@
+use Rattle.std.proofs.Common.{refl}
+use Rattle.ql_parse.proofs.Loops.{one_more, no_more}
+use Rattle.ql_parse.proofs.ChainLemmas.{gives_prefix, first_prefix}
+use Rattle.ql_parse.proofs.chain.prefixes.Goals as goal
+
+pub ops-preserved : goal.ops-preserved
+ops-preserved c n = rw c.in_ok-push.ensures.ok (one_more (c.ops.invariant n) c.in-Some.ensures.0 (gives_prefix c.in-Some.ensures.0 c.in-Some.ensures.1 c.skip.ensures) first_prefix)
+
+pub returns : goal.returns
+returns c n = no_more (c.ops.invariant n) c.in_default.ensures refl

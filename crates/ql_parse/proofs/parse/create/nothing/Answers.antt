@@ -1,6 +1,0 @@
-use Rattle.std.proofs.Common.{refl}
-use Rattle.ql_parse.specs.Readings.{absent, takes_nothing}
-use Rattle.ql_parse.proofs.parse.create.nothing.Goals as goal
-
-pub returns : goal.returns
-returns c n = record { parse = absent; reads = takes_nothing; means = refl }

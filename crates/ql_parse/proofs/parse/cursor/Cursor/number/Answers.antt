@@ -1,7 +1,0 @@
-use Rattle.std.proofs.Common.{ap, ◌∙◌}
-use Rattle.ql_parse.specs.Lexemes.{sees, is_number}
-use Rattle.ql_parse.proofs.CursorLemmas.{head_number}
-use Rattle.ql_parse.proofs.parse.cursor.Cursor.number.Goals as goal
-
-pub number_of-requires : goal.number_of-requires
-number_of-requires c = head_number _ _ c.self.inside.tokens.now _ c.in-Some.ensures c.self.invariant (ap (sees is_number) c.self.view_is ∙ c.requires)

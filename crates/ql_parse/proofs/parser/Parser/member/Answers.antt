@@ -1,0 +1,28 @@
+use Rattle.std.proofs.Common.{sym, ap, ◌∙◌}
+use Rattle.ql_syntax.specs.declared.syntax.Expr.TheVariants as e
+use Rattle.ql_parse.specs.Predicates.{among}
+use Rattle.ql_syntax.specs.Readings.{pair, group, both}
+use Rattle.ql_parse.proofs.StepLemmas.{exits}
+use Rattle.ql_parse.proofs.Sequences.{fails_first, fails_second}
+use Rattle.ql_parse.proofs.parser.Parser.member.Goals as goal
+
+pub returns-in_err-expect_word : goal.returns-in_err-expect_word
+returns-in_err-expect_word g c = exits _ _ _ _ c.from_residual.ensures.1 (fails_first (c.in_err-expect_word.ensures _))
+
+pub returns-in_err-members : goal.returns-in_err-members
+returns-in_err-members g c = exits _ _ _ _ c.from_residual-in_err-members.ensures.1 (fails_second (c.in_ok-expect_word.ensures _) c.in_err-members.ensures)
+
+pub returns-in-Listed : goal.returns-in-Listed
+returns-in-Listed g c = record {
+  parse = pair (c.in_ok-expect_word.ensures c.args.self.now.room).parse (group c.in_ok-members.ensures.parse);
+  reads = both (c.in_ok-expect_word.ensures c.args.self.now.room).reads c.in_ok-members.ensures.reads;
+  means = ap (λ q. e.IsIn q c.args.not c.in-Listed.list) c.in_ok-part.ensures ∙ ap (among c.args.part c.args.not) (sym c.in-Listed.is ∙ c.in_ok-members.ensures.means);
+}
+
+pub returns-in_ok-new-in-Query : goal.returns-in_ok-new-in-Query
+returns-in_ok-new-in-Query g c = record {
+  parse = pair (c.in_ok-expect_word.ensures c.args.self.now.room).parse (group c.in_ok-members.ensures.parse);
+  reads = both (c.in_ok-expect_word.ensures c.args.self.now.room).reads c.in_ok-members.ensures.reads;
+  means = ap (λ q. e.IsInSelect q c.args.not c.in_ok-new-in-Query.field-0) c.in_ok-part.ensures ∙ ap (e.IsInSelect c.args.part c.args.not) c.in_ok-new-in-Query.ensures
+      ∙ ap (among c.args.part c.args.not) (sym c.in-Query.is ∙ c.in_ok-members.ensures.means);
+}

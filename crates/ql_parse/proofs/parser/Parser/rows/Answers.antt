@@ -1,0 +1,35 @@
+use Rattle.std.proofs.Common.{sym, ap, ◌∙◌}
+use Rattle.ql_syntax.specs.declared.statement.RowSource.TheVariants as rows
+use Rattle.ql_syntax.specs.Readings.{pair, left, right, both, first, second}
+use Rattle.ql_parse.proofs.StepLemmas.{exits, taken}
+use Rattle.ql_parse.proofs.Sequences.{fails_second, fails_left, fails_right, fails_neither}
+use Rattle.ql_parse.proofs.parser.Parser.rows.Goals as goal
+
+pub returns-in_err-rows : goal.returns-in_err-rows
+returns-in_err-rows g c =
+    let seen = sym c.sees_word.ensures ∙ c.if-sees_word.true in
+    exits _ _ _ _ c.from_residual.ensures.1 (fails_left seen (fails_second (taken c.args.self.now.room seen c.skip.ensures) c.in_err-rows.ensures))
+
+pub returns-then-sees_word : goal.returns-then-sees_word
+returns-then-sees_word g c =
+    let seen = sym c.sees_word.ensures ∙ c.if-sees_word.true in
+    let word = taken c.args.self.now.room seen c.skip.ensures in
+    record {
+      parse = left (pair word.parse c.in_ok-rows.ensures.parse);
+      reads = first seen (both word.reads c.in_ok-rows.ensures.reads);
+      means = ap rows.Rows c.in_ok-rows.ensures.means;
+    }
+
+pub returns-in_err-query : goal.returns-in_err-query
+returns-in_err-query g c = exits _ _ _ _ c.from_residual-in_err-query.ensures.1
+    (fails_right (sym c.sees_word.ensures ∙ c.if-sees_word.false) (sym c.sees_word-2.ensures ∙ c.if-sees_word-2.true) c.in_err-query.ensures)
+
+pub returns-then-sees_word-2 : goal.returns-then-sees_word-2
+returns-then-sees_word-2 g c = record {
+  parse = right c.in_ok-query.ensures.parse;
+  reads = second (sym c.sees_word.ensures ∙ c.if-sees_word.false) (sym c.sees_word-2.ensures ∙ c.if-sees_word-2.true) c.in_ok-query.ensures.reads;
+  means = ap rows.Query c.in_ok-query.ensures.means;
+}
+
+pub returns : goal.returns
+returns g c = fails_neither (sym c.sees_word.ensures ∙ c.if-sees_word.false) (sym c.sees_word-2.ensures ∙ c.if-sees_word-2.false) c.unexpected.ensures

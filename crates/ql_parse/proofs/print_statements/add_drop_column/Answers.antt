@@ -1,6 +1,0 @@
-use Rattle.std.proofs.Common.{append_assoc, append-nil}
-use Rattle.ql_parse.proofs.print_statements.add_drop_column.Goals as goal
-
-pub returns-clause-ok : goal.returns-clause-ok
-returns-clause-ok c =
-    rw (c.in_ok-put-4.ensures.ok, c.as_slice-2.ensures.value, c.in_ok-put-3.ensures.ok, c.in_ok-put-2.ensures.ok, c.as_slice.ensures.value, c.in_ok-put.ensures.ok) (simp (append_assoc, append-nil))

@@ -1,0 +1,59 @@
+use Rattle.std.proofs.Common.{◌≡◌, sym, ◌∙◌, length}
+use Rattle.ql_lex.proofs.PlaceLemmas.{whole_in}
+use Rattle.ql_parse.specs.declared.fault.ParseFault.TheVariants as p
+use Rattle.ql_syntax.specs.Lexemes.{lexemes}
+use Rattle.ql_parse.specs.Parses.{Gives, Fails}
+use Rattle.ql_syntax.specs.Rules as rule
+use Rattle.ql_syntax.specs.Scripts.{limit}
+use Rattle.ql_syntax.specs.Statements.{statements_of}
+use Rattle.ql_parse.proofs.ScriptLemmas.{script_laws, is_read, is_unexpected, is_nested, ok_just_read, ok_no_stop, err_just_read, err_just_unexpected, err_just_nested, counted}
+use Rattle.ql_parse.proofs.scripts.script.Goals as goal
+
+pub new-cursor-requires : goal.new-cursor-requires
+new-cursor-requires c = rw c.as_slice.ensures (λ k d i. whole_in c.args.source.now c.args.tokens.now c.requires k d i)
+
+given : (c : goal.In-Ok) → Gives limit rule.script statements_of (lexemes c.args.source.now c.args.tokens.now) c.in-Ok.found c.statements.new.cursor
+given c = rw (c.new-cursor.ensures, c.as_slice.ensures) at c.in-Ok.ensures
+
+pub returns-in-Ok-clause-read : goal.returns-in-Ok-clause-read
+returns-in-Ok-clause-read c = is_read (given c)
+
+pub returns-in-Ok-clause-just_read : goal.returns-in-Ok-clause-just_read
+returns-in-Ok-clause-just_read c rs k = ok_just_read (given c) rs k
+
+pub returns-in-Ok-clause-just_unexpected : goal.returns-in-Ok-clause-just_unexpected
+returns-in-Ok-clause-just_unexpected c i k = absurd (ok_no_stop (given c) k.stops)
+
+pub returns-in-Ok-clause-just_nested : goal.returns-in-Ok-clause-just_nested
+returns-in-Ok-clause-just_nested c i k = absurd (ok_no_stop (given c) k.stops)
+
+pub returns-in-Ok-clause-laws : goal.returns-in-Ok-clause-laws
+returns-in-Ok-clause-laws c = script_laws
+
+failed : (c : goal.After-placed) → Fails limit rule.script (lexemes c.args.source.now c.args.tokens.now) c.in-Err.fault
+failed c = rw (c.new-cursor.ensures, c.as_slice.ensures) at c.in-Err.ensures
+
+count : (c : goal.After-placed) → c.len.result ≡ length (lexemes c.args.source.now c.args.tokens.now)
+count c = c.len.ensures ∙ counted c.args.source.now c.args.tokens.now
+
+pub returns-in-Err-clause-unexpected : goal.returns-in-Err-clause-unexpected
+returns-in-Err-clause-unexpected c i e =
+    let same : c.placed.result ≡ p.Unexpected i = cc in
+    is_unexpected c.len.result i c.in-Err.fault (count c) (failed c) (sym c.placed.ensures ∙ same)
+
+pub returns-in-Err-clause-too_nested : goal.returns-in-Err-clause-too_nested
+returns-in-Err-clause-too_nested c i e =
+    let same : c.placed.result ≡ p.TooNested i = cc in
+    is_nested c.len.result i c.in-Err.fault (count c) (failed c) (sym c.placed.ensures ∙ same)
+
+pub returns-in-Err-clause-just_read : goal.returns-in-Err-clause-just_read
+returns-in-Err-clause-just_read c rs k = rw c.placed.ensures (err_just_read c.len.result c.in-Err.fault (failed c) rs k)
+
+pub returns-in-Err-clause-just_unexpected : goal.returns-in-Err-clause-just_unexpected
+returns-in-Err-clause-just_unexpected c i k = rw c.placed.ensures (err_just_unexpected c.len.result c.in-Err.fault (count c) (failed c) i k)
+
+pub returns-in-Err-clause-just_nested : goal.returns-in-Err-clause-just_nested
+returns-in-Err-clause-just_nested c i k = rw c.placed.ensures (err_just_nested c.len.result c.in-Err.fault (count c) (failed c) i k)
+
+pub returns-in-Err-clause-laws : goal.returns-in-Err-clause-laws
+returns-in-Err-clause-laws c = script_laws

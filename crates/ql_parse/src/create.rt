@@ -1,0 +1,166 @@
+ghost use Rattle.std.specs.Prelude.{◌≡◌};
+ghost use Rattle.ql_syntax.specs.Lexemes.{sees_two, is_id, is_open};
+ghost use Rattle.ql_parse.specs.Nests.{Nests};
+ghost use Rattle.ql_parse.specs.Parses.{Answers, AnswersAnywhere, no_value};
+ghost use Rattle.ql_syntax.specs.Rules as rule;
+ghost use Rattle.ql_parse.specs.StatementLists as lists;
+ghost use Rattle.ql_parse.specs.StatementParts as spec;
+ghost use Rattle.ql_syntax.specs.Statements.{creation_of};
+
+use crate::brackets::{Enclosed, bracketed};
+use crate::cursor::Cursor;
+use crate::exists::unless_exists;
+use crate::fault::Fault;
+use crate::functions::is_spelled;
+use crate::parser::Parser;
+use crate::steps::{
+    eat_word, expect_name, expect_word, sees_name, sees_open_behind, sees_word, unexpected,
+};
+use ql_syntax::{ColumnDefs, Item, Statement};
+use ql_syntax::{Expr, Select};
+use ql_edge::Name;
+use ql_lex::{TokenKind, Word};
+use std::alloc::Global;
+
+/// The columns of a table.
+pub struct Columns;
+
+impl Enclosed for Columns {
+    type Part = ColumnDefs;
+
+    ghost of = { lists.columns };
+}
+
+/// What an index orders by.
+pub struct IndexItem;
+
+impl Enclosed for IndexItem {
+    type Part = Item;
+
+    ghost of = { lists.index_item };
+}
+
+/// Nothing.
+pub struct Empty;
+
+impl Enclosed for Empty {
+    type Part = ();
+
+    ghost of = { lists.empty };
+}
+
+/// Takes nothing.
+fn nothing(cursor: &mut Cursor<'_>) -> Result<(), Fault>
+    ensures { AnswersAnywhere rule.nothing no_value cursor.old result cursor.new }
+{
+    Ok(())
+}
+
+/// Whether the name `id` is the next token and `(` stands behind it.
+fn sees_id(cursor: &Cursor<'_>) -> bool
+    ensures { result ≡ sees_two is_id is_open cursor.now }
+{
+    let named = sees_name(cursor);
+    let spelled = is_spelled(cursor.text(), b"id");
+    let open = sees_open_behind(cursor);
+    named && spelled && open
+}
+
+/// Whether an index can begin at the next token.
+fn begins_index(cursor: &Cursor<'_>) -> bool
+    ensures { result ≡ rule.enters spec.index_rule cursor.now }
+{
+    match cursor.kind() {
+        Some(TokenKind::Word(Word::Unique | Word::Index)) => true,
+        _ => false,
+    }
+}
+
+/// What an index orders by, inside its brackets.
+fn one_item(alloc: Global, room: usize, cursor: &mut Cursor<'_>) -> Result<Item, Fault>
+    ensures { Answers room spec.item_rule spec.one_item_of cursor.old result cursor.new }
+{
+    if sees_id(cursor) {
+        cursor.skip();
+        bracketed::<Empty, _>(room, cursor, |_, cursor| nothing(cursor))?;
+        return Ok(Item::Id);
+    }
+    let name = expect_name(alloc, cursor)?;
+    Ok(Item::Column(name))
+}
+
+/// The table of an index, and what it orders by.
+fn target(alloc: Global, room: usize, cursor: &mut Cursor<'_>) -> Result<(Name, Item), Fault>
+    ensures { Answers room spec.target_rule spec.target_of cursor.old result cursor.new }
+{
+    expect_word(cursor, Word::On)?;
+    let table = expect_name(alloc, cursor)?;
+    let item = bracketed::<IndexItem, _>(room, cursor, |room, cursor| {
+        one_item(alloc, room, cursor)
+    })?;
+    Ok((table, item))
+}
+
+/// CREATE INDEX, from UNIQUE or INDEX on.
+fn create_index(alloc: Global, room: usize, cursor: &mut Cursor<'_>) -> Result<Statement, Fault>
+    ensures { Answers room spec.index_rule spec.index_of cursor.old result cursor.new }
+{
+    let unique = eat_word(cursor, Word::Unique);
+    expect_word(cursor, Word::Index)?;
+    let quiet = unless_exists(cursor)?;
+    let index = expect_name(alloc, cursor)?;
+    let (table, item) = target(alloc, room, cursor)?;
+    Ok(Statement::CreateIndex {
+        unique,
+        quiet,
+        index,
+        table,
+        item,
+    })
+}
+
+impl<
+    E: Fn(Global, usize, &mut Cursor<'_>) -> Result<Expr, Fault> + Copy,
+    S: Fn(Global, usize, &mut Cursor<'_>) -> Result<Select, Fault> + Copy,
+> Parser<E, S> {
+    /// CREATE TABLE, from TABLE on.
+    fn create_table(&self, cursor: &mut Cursor<'_>) -> Result<Statement, Fault>
+        requires { Nests self.now.room (E.pre self.now.expr) (E.post self.now.expr) (S.pre self.now.select) (S.post self.now.select) }
+        ensures { Answers self.now.room spec.table_rule spec.table_of cursor.old result cursor.new }
+    {
+        expect_word(cursor, Word::Table)?;
+        let quiet = unless_exists(cursor)?;
+        let table = expect_name(self.alloc, cursor)?;
+        let columns = bracketed::<Columns, _>(self.room, cursor, |room, cursor| {
+            self.column_defs(room, cursor)
+        })?;
+        Ok(Statement::CreateTable {
+            quiet,
+            table,
+            columns,
+        })
+    }
+
+    /// What stands behind CREATE.
+    fn made(&self, cursor: &mut Cursor<'_>) -> Result<Statement, Fault>
+        requires { Nests self.now.room (E.pre self.now.expr) (E.post self.now.expr) (S.pre self.now.select) (S.post self.now.select) }
+        ensures { Answers self.now.room spec.made_rule spec.made_of cursor.old result cursor.new }
+    {
+        if sees_word(cursor, Word::Table) {
+            return self.create_table(cursor);
+        }
+        if begins_index(cursor) {
+            return create_index(self.alloc, self.room, cursor);
+        }
+        Err(unexpected(cursor))
+    }
+
+    /// CREATE TABLE or CREATE INDEX.
+    pub fn creation(&self, cursor: &mut Cursor<'_>) -> Result<Statement, Fault>
+        requires { Nests self.now.room (E.pre self.now.expr) (E.post self.now.expr) (S.pre self.now.select) (S.post self.now.select) }
+        ensures { Answers self.now.room (rule.the rule.creation) creation_of cursor.old result cursor.new }
+    {
+        expect_word(cursor, Word::Create)?;
+        self.made(cursor)
+    }
+}

@@ -1,0 +1,57 @@
+ghost use Rattle.std.specs.Prelude.{◌≡◌};
+ghost use Rattle.ql_parse.specs.declared.fault.Fault.TheVariants as variant;
+ghost use Rattle.ql_parse.specs.declared.fault.ParseFault.TheVariants as public;
+ghost use Rattle.ql_parse.specs.ScriptFaults.{placed};
+
+use ql_edge::NoMemory;
+
+/// Why a list of tokens is no script.
+#[derive(Clone, Copy, Debug, PartialEq, Eq)]
+pub enum ParseFault {
+    /// The token with this number, counted from 0, is unexpected. The number of all tokens stands for an end that comes too early.
+    Unexpected(u64),
+    /// The token with this number opens one bracket too many.
+    TooNested(u64),
+    /// Memory ran out. It says nothing of the script.
+    NoMemory,
+}
+
+impl From<NoMemory> for ParseFault {
+    ghost from_gives = { λ _ fault. fault ≡ public.NoMemory };
+
+    fn from(_: NoMemory) -> ParseFault {
+        ParseFault::NoMemory
+    }
+}
+
+/// Why a part of a script does not read. The number is that of the tokens that are left, from the place on.
+#[derive(Clone, Copy, Debug, PartialEq, Eq)]
+pub enum Fault {
+    /// The next token is unexpected, or the end comes too early.
+    Unexpected(usize),
+    /// The next token opens a bracket, and no more may be opened.
+    TooNested(usize),
+    /// Memory ran out. It says nothing of the script.
+    NoMemory,
+}
+
+impl Fault {
+    /// The fault of a script of so many tokens.
+    pub fn placed(self, count: usize) -> ParseFault
+        ensures { result ≡ placed count self }
+    {
+        match self {
+            Fault::Unexpected(left) => ParseFault::Unexpected(count.saturating_sub(left) as u64),
+            Fault::TooNested(left) => ParseFault::TooNested(count.saturating_sub(left) as u64),
+            Fault::NoMemory => ParseFault::NoMemory,
+        }
+    }
+}
+
+impl From<NoMemory> for Fault {
+    ghost from_gives = { λ _ fault. fault ≡ variant.NoMemory };
+
+    fn from(_: NoMemory) -> Fault {
+        Fault::NoMemory
+    }
+}

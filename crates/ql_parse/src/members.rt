@@ -1,0 +1,8 @@
+use ql_syntax::{Exprs, Select};
+
+/// The members of an IN.
+#[derive(Drop)]
+pub enum Members {
+    Listed(Exprs),
+    Query(Select),
+}

@@ -1,8 +1,0 @@
-use crate::syntax::{Exprs, Select};
-
-/// The members of an IN.
-#[derive(Drop)]
-pub enum Members {
-    Listed(Exprs),
-    Query(Select),
-}

@@ -1,0 +1,4 @@
+pub mod GrammarExamples
+pub mod PrintingExamples
+pub mod PrintingEquations
+pub mod ValueExamples

@@ -1,0 +1,13 @@
+pub mod Lexemes
+pub mod Rules
+pub mod Readings
+pub mod Scripts
+pub mod Trees
+pub mod Statements
+pub mod Ink
+pub mod Printing
+pub mod StatementPrinting
+pub mod ReadsBack
+pub mod Kinds
+pub mod Values
+pub mod Typing

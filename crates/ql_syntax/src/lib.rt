@@ -1,0 +1,17 @@
+//! The syntax of the language: trees of statements and expressions, typed expressions, and what they mean and print.
+#![tactic(auto)]
+
+mod copy;
+mod statement;
+mod syntax;
+mod typed;
+
+pub use copy::copy_expr;
+pub use statement::{
+    Assign, Assigns, ColumnDef, ColumnDefs, ExprRows, Item, RowSource, Statement, Statements,
+};
+pub use syntax::{
+    Expr, Exprs, Field, Fields, FromSet, FromSets, Function, Join, Link, Links, Select, SetSource,
+    Side,
+};
+pub use typed::{OptTypeds, Typed, TypedLink, TypedLinks, TypedRows, Typeds};
