@@ -17,11 +17,11 @@ is_chain (Expr-F.Chain first rest) = Unit {0}
 is_chain _ = ⊥
 
 abbrev pub is_in : Layer → Type 0
-is_in (Expr-F.IsIn part negated list) = Unit {0}
+is_in (Expr-F.IsIn negated part list) = Unit {0}
 is_in _ = ⊥
 
 abbrev pub is_between : Layer → Type 0
-is_between (Expr-F.IsBetween part negated low high) = Unit {0}
+is_between (Expr-F.IsBetween negated part low high) = Unit {0}
 is_between _ = ⊥
 
 -- parts between operators of one level

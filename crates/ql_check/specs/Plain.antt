@@ -1,7 +1,7 @@
 -- What the checker's own types stand for.
 use Rattle.std.specs.Prelude.{Bool, true, false, ◌||◌, not, option_map}
 use Rattle.ql_value.specs.declared.value.Kind.{Kind}
-use Rattle.ql_syntax.specs.Kinds.{is_integer, is_truth, is_text, is_byte_list}
+use Rattle.ql_value.specs.Kinds.{is_integer, is_truth, is_text, is_byte_list}
 use Rattle.ql_syntax.specs.Typing as spec
 use Rattle.ql_rel.specs.Checked as checked
 use Rattle.ql_rel.specs.Operands as operands

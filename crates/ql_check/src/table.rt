@@ -1,5 +1,5 @@
 ghost use Rattle.std.specs.Prelude.{◌≡◌};
-ghost use Rattle.ql_syntax.specs.Kinds as kinds;
+ghost use Rattle.ql_value.specs.Kinds as kinds;
 ghost use Rattle.ql_syntax.specs.Typing as spec;
 ghost use Rattle.ql_check.specs.Plain.{test_of, typing_of};
 

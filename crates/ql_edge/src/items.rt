@@ -1,4 +1,5 @@
-ghost use Rattle.std.specs.Prelude.{◌≡◌, [], ◌∷◌, ◌++◌, length, take, IfOk, OnOk, OnErr};
+ghost use Rattle.std.specs.Prelude.{◌≡◌, [], ◌∷◌, ◌++◌, ◌==◌, ◌-◌, length, take, slice_get, IfOk, OnOk, OnErr};
+ghost use Rattle.std.specs.Option.{option_copied};
 
 use crate::NoMemory;
 use std::alloc::Global;
@@ -52,6 +53,24 @@ impl<T> Items<T> {
         self.items.len()
     }
 
+    pub fn is_empty(&self) -> bool
+        ensures { result ≡ (length self.now == 0) }
+    {
+        self.items.is_empty()
+    }
+
+    pub fn first(&self) -> Option<&T>
+        ensures { option_copied result ≡ slice_get self.now 0 }
+    {
+        self.items.as_slice().first()
+    }
+
+    pub fn last(&self) -> Option<&T>
+        ensures { option_copied result ≡ slice_get self.now (length self.now - 1) }
+    {
+        self.items.as_slice().last()
+    }
+
     /// The items as a `Vec`, for a loop that takes them one by one.
     pub fn into_vec(self) -> Vec<T>
         ensures { result.items ≡ self }
@@ -62,12 +81,33 @@ impl<T> Items<T> {
 }
 
 impl<T: Drop> Items<T> {
+    /// An empty list with room for so many items.
+    pub fn with_capacity(alloc: Global, capacity: usize) -> Result<Items<T>, NoMemory>
+        ensures { IfOk result (λ list. list ≡ []) }
+    {
+        let mut list = Items::new(alloc);
+        list.items.reserve_exact(capacity)?;
+        Ok(list)
+    }
+
+    /// Adds an item at the end. The room of a full list is doubled, from one item on, since most lists of a program are short.
     pub fn push(&mut self, item: T) -> Result<(), NoMemory>
         ensures ok { OnOk result (self.new ≡ self.old ++ item ∷ []) }
         ensures err { OnErr result (self.new ≡ self.old) }
     {
+        let len = self.items.len();
+        if len == self.items.capacity() {
+            self.items.reserve_exact(len.max(1))?;
+        }
         self.items.push(item)?;
         Ok(())
+    }
+
+    /// Gives back the room that the items do not need.
+    pub fn shrink_to_fit(&mut self)
+        ensures { self.new ≡ self.old }
+    {
+        self.items.shrink_to_fit();
     }
 
     /// Lets the items behind the first `len` go.
@@ -86,6 +126,15 @@ impl<T: Drop> Items<T> {
 }
 
 impl<T: Copy> Items<T> {
+    /// A list of copies of the items of a slice.
+    pub fn from_slice(alloc: Global, items: &[T]) -> Result<Items<T>, NoMemory>
+        ensures { IfOk result (λ copy. copy ≡ items.now) }
+    {
+        let mut copy = Items::new(alloc);
+        copy.extend(items)?;
+        Ok(copy)
+    }
+
     /// Adds copies of the items of a slice at the end.
     pub fn extend(&mut self, more: &[T]) -> Result<(), NoMemory>
         ensures ok { OnOk result (self.new ≡ self.old ++ more.now) }

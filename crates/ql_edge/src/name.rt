@@ -35,9 +35,9 @@ impl Name {
         requires within { length bytes.now ≤ NAME_LIMIT }
         ensures { IfOk result (λ name. name ≡ bytes.now) }
     {
-        let mut name = Bytes::new(alloc);
-        name.extend(bytes)?;
-        Ok(Name { bytes: name })
+        Ok(Name {
+            bytes: Bytes::from_slice(alloc, bytes)?,
+        })
     }
 
     pub fn as_slice(&self) -> &[u8]

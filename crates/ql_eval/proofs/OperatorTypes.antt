@@ -11,7 +11,7 @@ use Rattle.ql_value.specs.declared.value.Value.TheVariants as v
 use Rattle.ql_value.specs.Number.{HasKind}
 use Rattle.ql_value.specs.Arith.{on_numbers}
 use Rattle.ql_value.proofs.KindLaws.{the_kind_laws}
-use Rattle.ql_syntax.specs.Kinds.{is_integer, is_truth, is_text}
+use Rattle.ql_value.specs.Kinds.{is_integer, is_truth, is_text}
 use Rattle.ql_syntax.specs.Values.{Outcome, gives, refuses, means_nothing, then_from, outcome_of, calculated, comparison, both, either, operated, decides, linked}
 use Rattle.ql_syntax.specs.Typing.{Typing, only_null, of_kind, ill, IsTyped, HasType, among, given_type, meet, truth_of, operator_type}
 use Rattle.ql_eval.proofs.TypeLemmas.{Passes, AreBoth, among_passes, among_typed, given_parts, null_has, meet_both, pair_typed, meet_typed}

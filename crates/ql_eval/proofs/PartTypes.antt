@@ -13,7 +13,7 @@ use Rattle.ql_value.specs.Number.{HasKind, HasNumber, IsInteger, has_number, lea
 use Rattle.ql_value.specs.Convert.{IsConvertible, IsBool, IsBytes, converted, fitted}
 use Rattle.ql_value.proofs.ArithLaws.{wrapped_has}
 use Rattle.ql_value.proofs.KindLaws.{the_kind_laws}
-use Rattle.ql_syntax.specs.Kinds.{is_integer, is_truth, is_text, is_byte_list}
+use Rattle.ql_value.specs.Kinds.{is_integer, is_truth, is_text, is_byte_list}
 use Rattle.ql_syntax.specs.Values.{gives, means_nothing, outcome_of, prefix, prefix_number, prefixed, is_convertible, convert_to, narrow_to, length_of, asked, at_place}
 use Rattle.ql_syntax.specs.Typing.{Typing, only_null, of_kind, ill, IsTyped, HasType, FitsRow, among, meet, prefix_type, prefixed_type, converts, constant_type, place_type}
 use Rattle.ql_eval.proofs.TypeLemmas.{Passes, among_passes, among_typed, meet_both}

@@ -5,7 +5,7 @@ use Rattle.ql_value.specs.declared.value.Kind.TheVariants as k
 use Rattle.ql_value.specs.declared.value.Value.{Value}
 use Rattle.ql_value.specs.declared.value.Value.TheVariants as v
 use Rattle.ql_value.specs.Number.{HasKind}
-use Rattle.ql_syntax.specs.Kinds.{is_integer, is_truth, is_text, is_byte_list}
+use Rattle.ql_value.specs.Kinds.{is_integer, is_truth, is_text, is_byte_list}
 use Rattle.ql_syntax.specs.Typing.{Typing, only_null, of_kind, ill, HasType}
 use Rattle.ql_eval.proofs.TypeLemmas.{Passes}
 

@@ -14,7 +14,7 @@ use Rattle.ql_syntax.specs.declared.typed.TypedLink.{TypedLink}
 use Rattle.ql_syntax.specs.declared.typed.Typed.TheFolds.{fold-TypedLink, fold-roll-Typed, fold-roll-TypedLink, ind-Typed}
 use Rattle.ql_syntax.specs.declared.typed.Typed.TheOpen.{Typed-F, TypedLink-F}
 use Rattle.ql_syntax.specs.declared.typed.Typed.TheViews.{roll-Typed, roll-TypedLink}
-use Rattle.ql_syntax.specs.Kinds.{is_integer, is_text, is_byte_list}
+use Rattle.ql_value.specs.Kinds.{is_integer, is_text, is_byte_list}
 use Rattle.ql_syntax.specs.Values.{Outcome, Step, IsMeant, value_step, link_step, gives, refuses, means_nothing, then_from, is_null, operated, linked, chained, asked, asked_of, measured, length_of, coalesced, called, equals, or_equals, is_in, prefixed, convert_to, narrow_to, value_at, step_at}
 use Rattle.ql_syntax.specs.Typing.{Typing, only_null, of_kind, ill, IsTyped, HasType, FitsRow, among, given_type, meet, meet_all, truth_of, operator_type, StepType, chain_type, call_type, prefixed_type, converts, type_of, type_step, link_type}
 use Rattle.ql_eval.specs.declared.fault.EvalFault.{EvalFault}

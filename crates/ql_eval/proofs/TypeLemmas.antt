@@ -6,7 +6,7 @@ use Rattle.ql_value.specs.declared.value.Kind.TheVariants as k
 use Rattle.ql_value.specs.declared.value.Value.{Value}
 use Rattle.ql_value.specs.declared.value.Value.TheVariants as v
 use Rattle.ql_value.specs.Number.{HasKind}
-use Rattle.ql_syntax.specs.Kinds.{kind_number, same_kind}
+use Rattle.ql_value.specs.Kinds.{kind_number, same_kind}
 use Rattle.ql_syntax.specs.Typing.{Typing, only_null, of_kind, ill, IsTyped, HasType, among, given_type, meet}
 
 -- the kind with a number

@@ -19,5 +19,5 @@ membership_tree part (both h (first e (both i (enclosed o (second f g (both k l)
 membership_tree part (both h (second e f (both i (both j (both k l))))) = refl
 
 -- equal parts and bounds make equal tests
-pub same_between : {a a' b b' d d' : Expr} (negated : Bool) → a ≡ a' → b ≡ b' → d ≡ d' → e.IsBetween a negated b d ≡ e.IsBetween a' negated b' d'
+pub same_between : {a a' b b' d d' : Expr} (negated : Bool) → a ≡ a' → b ≡ b' → d ≡ d' → e.IsBetween negated a b d ≡ e.IsBetween negated a' b' d'
 same_between negated i j k = rw (i, j, k) refl

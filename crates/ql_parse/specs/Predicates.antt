@@ -15,7 +15,7 @@ abbrev pub null_rule : Rule
 null_rule = word w.Is then maybe (word w.Not) then word w.Null
 
 abbrev pub null_of : Expr → Parse → Expr
-null_of part (pair _ (pair n _)) = e.IsNull part (is_present n)
+null_of part (pair _ (pair n _)) = e.IsNull (is_present n) part
 null_of part _ = part
 
 -- `IN "(" (list(Expr) | Select [";"]) ")"`
@@ -23,8 +23,8 @@ abbrev pub member_rule : Rule
 member_rule = word w.In then bracketed (list (the expr) or subselect)
 
 abbrev pub among : Expr → Bool → Members → Expr
-among part negated (m.Listed list) = e.IsIn part negated list
-among part negated (m.Query query) = e.IsInSelect part negated query
+among part negated (m.Listed list) = e.IsIn negated part list
+among part negated (m.Query query) = e.IsInSelect negated part query
 
 abbrev pub member_of : Expr → Bool → Parse → Expr
 member_of part negated (pair _ (group a)) = among part negated (members_of a)
@@ -35,7 +35,7 @@ abbrev pub range_rule : Rule
 range_rule = word w.Between then the sum then word w.And then the sum
 
 abbrev pub range_of : Expr → Bool → Parse → Expr
-range_of part negated (pair _ (pair low (pair _ high))) = e.IsBetween part negated (expr_of low) (expr_of high)
+range_of part negated (pair _ (pair low (pair _ high))) = e.IsBetween negated part (expr_of low) (expr_of high)
 range_of part negated _ = part
 
 -- `[NOT] IN ..` or `[NOT] BETWEEN ..`

@@ -111,28 +111,28 @@ not_is false rest = refl
 
 -- IN a list
 pub before_in : (part : Expr) (negated : Bool) (list : List Expr) (rest : List Lexeme) →
-    expr_before (e.IsIn part negated list) rest ≡ expr_before part (not_before negated (word_token w.In ∷ mark_token m.Open ∷ listed_before expr_before list (mark_token m.Close ∷ rest)))
+    expr_before (e.IsIn negated part list) rest ≡ expr_before part (not_before negated (word_token w.In ∷ mark_token m.Open ∷ listed_before expr_before list (mark_token m.Close ∷ rest)))
 unfolding expr_before
 before_in part negated list rest = ap (λ x. before x rest) (of_in part negated list) ∙ before_both (ink_of_expr part) _ rest
     ∙ ap (before (ink_of_expr part)) (before_both (ink_of_not negated) _ rest ∙ not_is negated _ ∙ ap (λ ts. not_before negated (word_token w.In ∷ ts)) (list_is list rest))
 
 -- IN a SELECT
 pub before_in_select : (part : Expr) (negated : Bool) (query : Select) (rest : List Lexeme) →
-    expr_before (e.IsInSelect part negated query) rest ≡ expr_before part (not_before negated (word_token w.In ∷ mark_token m.Open ∷ select_before query (mark_token m.Close ∷ rest)))
+    expr_before (e.IsInSelect negated part query) rest ≡ expr_before part (not_before negated (word_token w.In ∷ mark_token m.Open ∷ select_before query (mark_token m.Close ∷ rest)))
 unfolding expr_before select_before
 before_in_select part negated query rest = ap (λ x. before x rest) (of_in_select part negated query) ∙ before_both (ink_of_expr part) _ rest
     ∙ ap (before (ink_of_expr part)) (before_both (ink_of_not negated) _ rest ∙ not_is negated _ ∙ ap (λ ts. not_before negated (word_token w.In ∷ ts)) (before_bracketed (ink_of_select query) rest))
 
 -- BETWEEN
 pub before_between : (part : Expr) (negated : Bool) (low high : Expr) (rest : List Lexeme) →
-    expr_before (e.IsBetween part negated low high) rest ≡ expr_before part (not_before negated (word_token w.Between ∷ expr_before low (word_token w.And ∷ expr_before high rest)))
+    expr_before (e.IsBetween negated part low high) rest ≡ expr_before part (not_before negated (word_token w.Between ∷ expr_before low (word_token w.And ∷ expr_before high rest)))
 unfolding expr_before
 before_between part negated low high rest = ap (λ x. before x rest) (of_between part negated low high) ∙ before_both (ink_of_expr part) _ rest
     ∙ ap (before (ink_of_expr part)) (before_both (ink_of_not negated) _ rest ∙ not_is negated _ ∙ ap (λ ts. not_before negated (word_token w.Between ∷ ts)) (before_both (ink_of_expr low) _ rest))
 
 -- IS NULL
 pub before_is_null : (part : Expr) (negated : Bool) (rest : List Lexeme) →
-    expr_before (e.IsNull part negated) rest ≡ expr_before part (word_token w.Is ∷ not_before negated (word_token w.Null ∷ rest))
+    expr_before (e.IsNull negated part) rest ≡ expr_before part (word_token w.Is ∷ not_before negated (word_token w.Null ∷ rest))
 unfolding expr_before
 before_is_null part negated rest = ap (λ x. before x rest) (of_is_null part negated) ∙ before_both (ink_of_expr part) _ rest
     ∙ ap (λ ts. before (ink_of_expr part) (word_token w.Is ∷ ts)) (before_both (ink_of_not negated) _ rest ∙ not_is negated _)

@@ -108,17 +108,17 @@ not_after : (negated : Bool) (ts : List Lexeme) → Avoids after_compared ts →
 not_after true ts h = record { none = refl }
 not_after false ts h = h
 
-pub in_again : {n : ℕ} (negated : Bool) {xs : List Expr} {rest : List Lexeme} → BackExprList n xs (mark_token m.Close ∷ rest) → BackTest (suc n) (λ x. e.IsIn x negated xs) rest
+pub in_again : {n : ℕ} (negated : Bool) {xs : List Expr} {rest : List Lexeme} → BackExprList n xs (mark_token m.Close ∷ rest) → BackTest (suc n) (λ x. e.IsIn negated x xs) rest
 in_again negated {xs = xs} {rest = rest} b = record {
   tokens = not_before negated (word_token w.In ∷ mark_token m.Open ∷ listed_before expr_before xs (mark_token m.Close ∷ rest));
   parse = present (node predicate (left (pair (not_parse negated) (left (pair (leaf (word_token w.In)) (group (left (pair b.first b.more))))))));
   spelled = λ x. before_in x negated xs rest;
   reads = among_reads negated refl refl (r.first refl (r.both (r.takes refl) (r.enclosed refl (r.first b.begins b.reads) refl)));
-  tree = λ x. rw (plain_of_in x negated xs, not_present negated) (ap (e.IsIn (plain_expr x) negated) b.tree);
+  tree = λ x. rw (plain_of_in x negated xs, not_present negated) (ap (e.IsIn negated (plain_expr x)) b.tree);
   after = not_after negated _ (record { none = refl });
 }
 
-pub between_again : {n : ℕ} (negated : Bool) {low high : Expr} {rest : List Lexeme} → Back n sum low (word_token w.And ∷ expr_before high rest) → Back n sum high rest → BackTest n (λ x. e.IsBetween x negated low high) rest
+pub between_again : {n : ℕ} (negated : Bool) {low high : Expr} {rest : List Lexeme} → Back n sum low (word_token w.And ∷ expr_before high rest) → Back n sum high rest → BackTest n (λ x. e.IsBetween negated x low high) rest
 between_again negated {low = low} {high = high} {rest = rest} l h = record {
   tokens = not_before negated (word_token w.Between ∷ expr_before low (word_token w.And ∷ expr_before high rest));
   parse = present (node predicate (left (pair (not_parse negated) (right (pair (leaf (word_token w.Between)) (pair l.parse (pair (leaf (word_token w.And)) h.parse)))))));
@@ -128,7 +128,7 @@ between_again negated {low = low} {high = high} {rest = rest} l h = record {
   after = not_after negated _ (record { none = refl });
 }
 
-pub null_test_again : {n : ℕ} (negated : Bool) (rest : List Lexeme) → BackTest n (λ x. e.IsNull x negated) rest
+pub null_test_again : {n : ℕ} (negated : Bool) (rest : List Lexeme) → BackTest n (λ x. e.IsNull negated x) rest
 null_test_again negated rest = record {
   tokens = word_token w.Is ∷ not_before negated (word_token w.Null ∷ rest);
   parse = present (node predicate (right (pair (leaf (word_token w.Is)) (pair (not_parse negated) (leaf (word_token w.Null))))));
@@ -146,7 +146,7 @@ pub record BackSelect (n : ℕ) (query : Select) (rest : List Lexeme) : Type 0 w
   pub behind : List Lexeme
   pub spelled : select_before query rest ≡ word_token w.Select ∷ behind
 
-pub in_select_again : {n : ℕ} (negated : Bool) {query : Select} {rest : List Lexeme} → BackSelect n query (mark_token m.Close ∷ rest) → BackTest (suc n) (λ x. e.IsInSelect x negated query) rest
+pub in_select_again : {n : ℕ} (negated : Bool) {query : Select} {rest : List Lexeme} → BackSelect n query (mark_token m.Close ∷ rest) → BackTest (suc n) (λ x. e.IsInSelect negated x query) rest
 in_select_again {n = n} negated {query = query} {rest = rest} b =
     let begins : sees (is_word w.Select) (select_before query (mark_token m.Close ∷ rest)) ≡ true = rw b.spelled refl in
     let other : begins_expr (select_before query (mark_token m.Close ∷ rest)) ≡ false = rw b.spelled refl in

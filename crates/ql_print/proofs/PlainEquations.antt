@@ -60,20 +60,20 @@ pub plain_of_convert : (kind : Kind) (part : Expr) → plain_expr (e.Convert kin
 plain_of_convert kind part = ap plain_expr (sym (e.rolls-Convert kind part)) ∙ fold-roll-Expr Expr SetSource Field FromSet Join Link Select expr_step source_step field_step set_step join_step link_step select_step (Expr-F.Convert kind part)
 
 -- IN a list
-pub plain_of_in : (part : Expr) (negated : Bool) (list : List Expr) → plain_expr (e.IsIn part negated list) ≡ e.IsIn (plain_expr part) negated (map plain_expr list)
-plain_of_in part negated list = ap plain_expr (sym (e.rolls-IsIn part negated list)) ∙ fold-roll-Expr Expr SetSource Field FromSet Join Link Select expr_step source_step field_step set_step join_step link_step select_step (Expr-F.IsIn part negated list)
+pub plain_of_in : (part : Expr) (negated : Bool) (list : List Expr) → plain_expr (e.IsIn negated part list) ≡ e.IsIn negated (plain_expr part) (map plain_expr list)
+plain_of_in part negated list = ap plain_expr (sym (e.rolls-IsIn negated part list)) ∙ fold-roll-Expr Expr SetSource Field FromSet Join Link Select expr_step source_step field_step set_step join_step link_step select_step (Expr-F.IsIn negated part list)
 
 -- IN a SELECT
-pub plain_of_in_select : (part : Expr) (negated : Bool) (query : Select) → plain_expr (e.IsInSelect part negated query) ≡ e.IsInSelect (plain_expr part) negated (plain_select query)
-plain_of_in_select part negated query = ap plain_expr (sym (e.rolls-IsInSelect part negated query)) ∙ fold-roll-Expr Expr SetSource Field FromSet Join Link Select expr_step source_step field_step set_step join_step link_step select_step (Expr-F.IsInSelect part negated query)
+pub plain_of_in_select : (part : Expr) (negated : Bool) (query : Select) → plain_expr (e.IsInSelect negated part query) ≡ e.IsInSelect negated (plain_expr part) (plain_select query)
+plain_of_in_select part negated query = ap plain_expr (sym (e.rolls-IsInSelect negated part query)) ∙ fold-roll-Expr Expr SetSource Field FromSet Join Link Select expr_step source_step field_step set_step join_step link_step select_step (Expr-F.IsInSelect negated part query)
 
 -- BETWEEN
-pub plain_of_between : (part : Expr) (negated : Bool) (low high : Expr) → plain_expr (e.IsBetween part negated low high) ≡ e.IsBetween (plain_expr part) negated (plain_expr low) (plain_expr high)
-plain_of_between part negated low high = ap plain_expr (sym (e.rolls-IsBetween part negated low high)) ∙ fold-roll-Expr Expr SetSource Field FromSet Join Link Select expr_step source_step field_step set_step join_step link_step select_step (Expr-F.IsBetween part negated low high)
+pub plain_of_between : (part : Expr) (negated : Bool) (low high : Expr) → plain_expr (e.IsBetween negated part low high) ≡ e.IsBetween negated (plain_expr part) (plain_expr low) (plain_expr high)
+plain_of_between part negated low high = ap plain_expr (sym (e.rolls-IsBetween negated part low high)) ∙ fold-roll-Expr Expr SetSource Field FromSet Join Link Select expr_step source_step field_step set_step join_step link_step select_step (Expr-F.IsBetween negated part low high)
 
 -- IS NULL
-pub plain_of_is_null : (part : Expr) (negated : Bool) → plain_expr (e.IsNull part negated) ≡ e.IsNull (plain_expr part) negated
-plain_of_is_null part negated = ap plain_expr (sym (e.rolls-IsNull part negated)) ∙ fold-roll-Expr Expr SetSource Field FromSet Join Link Select expr_step source_step field_step set_step join_step link_step select_step (Expr-F.IsNull part negated)
+pub plain_of_is_null : (part : Expr) (negated : Bool) → plain_expr (e.IsNull negated part) ≡ e.IsNull negated (plain_expr part)
+plain_of_is_null part negated = ap plain_expr (sym (e.rolls-IsNull negated part)) ∙ fold-roll-Expr Expr SetSource Field FromSet Join Link Select expr_step source_step field_step set_step join_step link_step select_step (Expr-F.IsNull negated part)
 
 -- a table as a record set
 pub plain_of_table : (table : List ℕ) → plain_source (source.Table table) ≡ source.Table table

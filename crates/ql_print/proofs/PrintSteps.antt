@@ -55,7 +55,7 @@ select_text s =
     (behind w.Offset (option_map ink_of_expr (out-Select s).offset))
 
 -- the text of a part that is compared with NULL
-pub null_text : (expr part got : Expr) (negated : Bool) (b : List ℕ) → expr ≡ e.IsNull part negated → got ≡ part
+pub null_text : (expr part got : Expr) (negated : Bool) (b : List ℕ) → expr ≡ e.IsNull negated part → got ≡ part
     → b ≡ text_of (space ∷ keyword w.Is ∷ space ∷ ink_of_not negated ++ (keyword w.Null ∷ []))
     → text_of (ink_of_expr expr) ≡ text_of (ink_of_expr got) ++ b
 null_text expr part got negated b h g k = rw (h, g, k) (ap text_of (of_is_null part negated) ∙ text_append (ink_of_expr part) _)
@@ -66,7 +66,7 @@ regroup true word rest = refl
 regroup false word rest = refl
 
 -- the text of a part between two others
-pub between_text : (expr part got low got_low high got_high : Expr) (negated : Bool) (b : List ℕ) → expr ≡ e.IsBetween part negated low high → got ≡ part → got_low ≡ low → got_high ≡ high
+pub between_text : (expr part got low got_low high got_high : Expr) (negated : Bool) (b : List ℕ) → expr ≡ e.IsBetween negated part low high → got ≡ part → got_low ≡ low → got_high ≡ high
     → b ≡ text_of (space ∷ ink_of_not negated ++ (keyword w.Between ∷ space ∷ []))
     → text_of (ink_of_expr expr) ≡ text_of (ink_of_expr got) ++ (b ++ (text_of (ink_of_expr got_low) ++ (codes " AND " ++ text_of (ink_of_expr got_high))))
 between_text expr part got low got_low high got_high negated b h g i j k =

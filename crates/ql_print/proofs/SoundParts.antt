@@ -139,19 +139,19 @@ not_later true word x s i h = record {
   apart = λ tail e. refl;
 }
 
-pub in_sound : (part : Expr) (negated : Bool) (list : List Expr) → IsSound (ink_of_expr part) → AreSound (map ink_of_expr list) → IsSound (ink_of_expr (e.IsIn part negated list))
+pub in_sound : (part : Expr) (negated : Bool) (list : List Expr) → IsSound (ink_of_expr part) → AreSound (map ink_of_expr list) → IsSound (ink_of_expr (e.IsIn negated part list))
 in_sound part negated list h k =
     rw (of_in part negated list)
     (sound_then (ink_of_expr part) ((space ∷ ink_of_not negated) ++ (keyword w.In ∷ space ∷ bracketed (listed (map ink_of_expr list)))) h
     (not_later negated w.In (bracketed (listed (map ink_of_expr list))) refl refl (sound_part (bracketed_part (listed (map ink_of_expr list)) (listed_sound (map ink_of_expr list) k)))))
 
-pub in_select_sound : (part : Expr) (negated : Bool) (query : Select) → IsSound (ink_of_expr part) → IsSound (ink_of_select query) → IsSound (ink_of_expr (e.IsInSelect part negated query))
+pub in_select_sound : (part : Expr) (negated : Bool) (query : Select) → IsSound (ink_of_expr part) → IsSound (ink_of_select query) → IsSound (ink_of_expr (e.IsInSelect negated part query))
 in_select_sound part negated query h k =
     rw (of_in_select part negated query)
     (sound_then (ink_of_expr part) ((space ∷ ink_of_not negated) ++ (keyword w.In ∷ space ∷ bracketed (ink_of_select query))) h
     (not_later negated w.In (bracketed (ink_of_select query)) refl refl (sound_part (bracketed_part (ink_of_select query) k))))
 
-pub between_sound : (part : Expr) (negated : Bool) (low high : Expr) → IsSound (ink_of_expr part) → IsSound (ink_of_expr low) → IsSound (ink_of_expr high) → IsSound (ink_of_expr (e.IsBetween part negated low high))
+pub between_sound : (part : Expr) (negated : Bool) (low high : Expr) → IsSound (ink_of_expr part) → IsSound (ink_of_expr low) → IsSound (ink_of_expr high) → IsSound (ink_of_expr (e.IsBetween negated part low high))
 between_sound part negated low high h i k =
     let bounds = sound_then (ink_of_expr low) (space ∷ keyword w.And ∷ space ∷ ink_of_expr high) i (behind_later w.And (ink_of_expr high) refl refl k) in
     rw (of_between part negated low high)
@@ -166,6 +166,6 @@ null_later false = behind_later w.Is (keyword w.Null ∷ []) refl refl null_soun
 null_later true = behind_later w.Is (keyword w.Not ∷ space ∷ keyword w.Null ∷ []) refl refl
     (record { goes = λ tail e l. keyword_lexed w.Not (space ∷ keyword w.Null ∷ tail) refl refl refl (blank (keyword_lexed w.Null tail refl refl e l)) })
 
-pub is_null_sound : (part : Expr) (negated : Bool) → IsSound (ink_of_expr part) → IsSound (ink_of_expr (e.IsNull part negated))
+pub is_null_sound : (part : Expr) (negated : Bool) → IsSound (ink_of_expr part) → IsSound (ink_of_expr (e.IsNull negated part))
 is_null_sound part negated h =
     rw (of_is_null part negated) (sound_then (ink_of_expr part) (space ∷ keyword w.Is ∷ space ∷ ink_of_not negated ++ (keyword w.Null ∷ [])) h (null_later negated))

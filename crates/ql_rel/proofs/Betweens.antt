@@ -4,7 +4,7 @@ use Rattle.ql_value.specs.declared.operator.BinOp.{BinOp}
 use Rattle.ql_value.specs.declared.operator.BinOp.TheVariants as op
 use Rattle.ql_value.specs.declared.value.Kind.{Kind}
 use Rattle.ql_value.specs.declared.value.Kind.TheVariants as k
-use Rattle.ql_syntax.specs.Kinds.{is_integer, is_truth, same_kind}
+use Rattle.ql_value.specs.Kinds.{is_integer, is_truth, same_kind}
 use Rattle.ql_syntax.specs.declared.syntax.Function.{Function}
 use Rattle.ql_syntax.specs.declared.syntax.Function.TheVariants as f
 use Rattle.ql_syntax.specs.declared.typed.Typed.{Typed}

@@ -43,17 +43,17 @@ judge_of_call scope function star parts = ap (judge scope) (sym (e.rolls-Call fu
 pub judge_of_convert : (scope : Scope) (kind : Kind) (part : Expr) → judge scope (e.Convert kind part) ≡ expr_step scope (Expr-F.Convert kind (judge scope part))
 judge_of_convert scope kind part = ap (judge scope) (sym (e.rolls-Convert kind part)) ∙ fold-roll-Expr Judged (Unit {0}) (Unit {0}) (Unit {0}) (Unit {0}) JudgedLink (Unit {0}) (expr_step scope) (λ _. tt) (λ _. tt) (λ _. tt) (λ _. tt) link_step (λ _. tt) (Expr-F.Convert kind part)
 
-pub judge_of_in : (scope : Scope) (part : Expr) (negated : Bool) (list : List Expr) → judge scope (e.IsIn part negated list) ≡ expr_step scope (Expr-F.IsIn (judge scope part) negated (map (judge scope) list))
-judge_of_in scope part negated list = ap (judge scope) (sym (e.rolls-IsIn part negated list)) ∙ fold-roll-Expr Judged (Unit {0}) (Unit {0}) (Unit {0}) (Unit {0}) JudgedLink (Unit {0}) (expr_step scope) (λ _. tt) (λ _. tt) (λ _. tt) (λ _. tt) link_step (λ _. tt) (Expr-F.IsIn part negated list)
+pub judge_of_in : (scope : Scope) (part : Expr) (negated : Bool) (list : List Expr) → judge scope (e.IsIn negated part list) ≡ expr_step scope (Expr-F.IsIn negated (judge scope part) (map (judge scope) list))
+judge_of_in scope part negated list = ap (judge scope) (sym (e.rolls-IsIn negated part list)) ∙ fold-roll-Expr Judged (Unit {0}) (Unit {0}) (Unit {0}) (Unit {0}) JudgedLink (Unit {0}) (expr_step scope) (λ _. tt) (λ _. tt) (λ _. tt) (λ _. tt) link_step (λ _. tt) (Expr-F.IsIn negated part list)
 
-pub judge_of_in_select : (scope : Scope) (part : Expr) (negated : Bool) (query : Select) → judge scope (e.IsInSelect part negated query) ≡ expr_step scope (Expr-F.IsInSelect (judge scope part) negated tt)
-judge_of_in_select scope part negated query = ap (judge scope) (sym (e.rolls-IsInSelect part negated query)) ∙ fold-roll-Expr Judged (Unit {0}) (Unit {0}) (Unit {0}) (Unit {0}) JudgedLink (Unit {0}) (expr_step scope) (λ _. tt) (λ _. tt) (λ _. tt) (λ _. tt) link_step (λ _. tt) (Expr-F.IsInSelect part negated query)
+pub judge_of_in_select : (scope : Scope) (part : Expr) (negated : Bool) (query : Select) → judge scope (e.IsInSelect negated part query) ≡ expr_step scope (Expr-F.IsInSelect negated (judge scope part) tt)
+judge_of_in_select scope part negated query = ap (judge scope) (sym (e.rolls-IsInSelect negated part query)) ∙ fold-roll-Expr Judged (Unit {0}) (Unit {0}) (Unit {0}) (Unit {0}) JudgedLink (Unit {0}) (expr_step scope) (λ _. tt) (λ _. tt) (λ _. tt) (λ _. tt) link_step (λ _. tt) (Expr-F.IsInSelect negated part query)
 
-pub judge_of_between : (scope : Scope) (part : Expr) (negated : Bool) (low : Expr) (high : Expr) → judge scope (e.IsBetween part negated low high) ≡ expr_step scope (Expr-F.IsBetween (judge scope part) negated (judge scope low) (judge scope high))
-judge_of_between scope part negated low high = ap (judge scope) (sym (e.rolls-IsBetween part negated low high)) ∙ fold-roll-Expr Judged (Unit {0}) (Unit {0}) (Unit {0}) (Unit {0}) JudgedLink (Unit {0}) (expr_step scope) (λ _. tt) (λ _. tt) (λ _. tt) (λ _. tt) link_step (λ _. tt) (Expr-F.IsBetween part negated low high)
+pub judge_of_between : (scope : Scope) (part : Expr) (negated : Bool) (low : Expr) (high : Expr) → judge scope (e.IsBetween negated part low high) ≡ expr_step scope (Expr-F.IsBetween negated (judge scope part) (judge scope low) (judge scope high))
+judge_of_between scope part negated low high = ap (judge scope) (sym (e.rolls-IsBetween negated part low high)) ∙ fold-roll-Expr Judged (Unit {0}) (Unit {0}) (Unit {0}) (Unit {0}) JudgedLink (Unit {0}) (expr_step scope) (λ _. tt) (λ _. tt) (λ _. tt) (λ _. tt) link_step (λ _. tt) (Expr-F.IsBetween negated part low high)
 
-pub judge_of_is_null : (scope : Scope) (part : Expr) (negated : Bool) → judge scope (e.IsNull part negated) ≡ expr_step scope (Expr-F.IsNull (judge scope part) negated)
-judge_of_is_null scope part negated = ap (judge scope) (sym (e.rolls-IsNull part negated)) ∙ fold-roll-Expr Judged (Unit {0}) (Unit {0}) (Unit {0}) (Unit {0}) JudgedLink (Unit {0}) (expr_step scope) (λ _. tt) (λ _. tt) (λ _. tt) (λ _. tt) link_step (λ _. tt) (Expr-F.IsNull part negated)
+pub judge_of_is_null : (scope : Scope) (part : Expr) (negated : Bool) → judge scope (e.IsNull negated part) ≡ expr_step scope (Expr-F.IsNull negated (judge scope part))
+judge_of_is_null scope part negated = ap (judge scope) (sym (e.rolls-IsNull negated part)) ∙ fold-roll-Expr Judged (Unit {0}) (Unit {0}) (Unit {0}) (Unit {0}) JudgedLink (Unit {0}) (expr_step scope) (λ _. tt) (λ _. tt) (λ _. tt) (λ _. tt) link_step (λ _. tt) (Expr-F.IsNull negated part)
 
 pub judge_of_link : (scope : Scope) (op : BinOp) (part : Expr) → judge_link scope (roll-Link (record { op = op; part = part })) ≡ record { op = op; part = judge scope part }
 judge_of_link scope op part = fold-roll-Link Judged (Unit {0}) (Unit {0}) (Unit {0}) (Unit {0}) JudgedLink (Unit {0}) (expr_step scope) (λ _. tt) (λ _. tt) (λ _. tt) (λ _. tt) link_step (λ _. tt) (record { op = op; part = part })

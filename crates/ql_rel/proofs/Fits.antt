@@ -10,7 +10,7 @@ use Rattle.ql_value.specs.declared.value.Value.TheVariants as v
 use Rattle.ql_value.proofs.KindLaws.{the_kind_laws}
 use Rattle.ql_syntax.specs.declared.typed.Typed.{Typed}
 use Rattle.ql_syntax.specs.declared.typed.Typed.TheVariants as t
-use Rattle.ql_syntax.specs.Kinds.{is_integer, same_kind}
+use Rattle.ql_value.specs.Kinds.{is_integer, same_kind}
 use Rattle.ql_syntax.specs.Typing.{Typing, only_null, of_kind, ill, IsTyped, among, given_type}
 use Rattle.ql_rel.specs.Answers.{Answer, then_with, refused}
 use Rattle.ql_rel.specs.Checked.{Literal, Checked, known, number_of, literal_kind, literal_of, literal_in, narrowed, take_kind, meet_type, is_number_type, kind_or_int64, ruled, bracketed}

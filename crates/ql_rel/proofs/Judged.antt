@@ -129,19 +129,19 @@ module _ (row : List Typing) (scope : Scope) (stands : Stands row scope) where
   layer (Expr-F.Convert kind part) = by_layer (Expr-F.Convert kind part.0) (λ a c e.
       let s = then_ok ((judge scope part.0).answer a) (convert_to kind) c e in
       convert_fits a row kind s.0 c (part.1 a s.0 s.1) s.2)
-  layer (Expr-F.IsIn part negated list) = by_layer (Expr-F.IsIn part.0 negated (map (λ p. p.0) list)) (λ a c e.
+  layer (Expr-F.IsIn negated part list) = by_layer (Expr-F.IsIn negated part.0 (map (λ p. p.0) list)) (λ a c e.
       let js = map (judge scope) (map (λ p. p.0) list) in
       let s = then_ok ((judge scope part.0).answer a) (λ x. then_with (answers a js) (in_list negated x)) c e in
       let m = then_ok (answers a js) (in_list negated s.0) c s.2 in
       in_fits a row negated s.0 m.0 c (part.1 a s.0 s.1) (each_answer a js m.0 (parts_are_so list) m.1) m.2)
-  layer (Expr-F.IsInSelect part negated query) = by_layer (Expr-F.IsInSelect part.0 negated query.0) (λ a c e.
+  layer (Expr-F.IsInSelect negated part query) = by_layer (Expr-F.IsInSelect negated part.0 query.0) (λ a c e.
       let s = then_ok ((judge scope part.0).answer a) (λ x. refused 10) c e in absurd (let f = s.2 in cc))
-  layer (Expr-F.IsBetween part negated low high) = by_layer (Expr-F.IsBetween part.0 negated low.0 high.0) (λ a c e.
+  layer (Expr-F.IsBetween negated part low high) = by_layer (Expr-F.IsBetween negated part.0 low.0 high.0) (λ a c e.
       let s = then_ok ((judge scope part.0).answer a) (λ x. then_with ((judge scope low.0).answer a) (λ y. then_with ((judge scope high.0).answer a) (between negated x y))) c e in
       let l = then_ok ((judge scope low.0).answer a) (λ y. then_with ((judge scope high.0).answer a) (between negated s.0 y)) c s.2 in
       let h = then_ok ((judge scope high.0).answer a) (between negated s.0 l.0) c l.2 in
       between_fits a row negated s.0 l.0 h.0 c (part.1 a s.0 s.1) (low.1 a l.0 l.1) (high.1 a h.0 h.1) h.2)
-  layer (Expr-F.IsNull part negated) = by_layer (Expr-F.IsNull part.0 negated) (λ a c e.
+  layer (Expr-F.IsNull negated part) = by_layer (Expr-F.IsNull negated part.0) (λ a c e.
       let s = then_ok ((judge scope part.0).answer a) (λ x. Ok (null_test negated x)) c e in
       subst (Fits a row) (same_ok (null_test negated s.0) c s.2) (null_fits a row negated s.0 (part.1 a s.0 s.1)))
 

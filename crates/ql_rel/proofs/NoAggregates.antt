@@ -4,7 +4,7 @@ use Rattle.ql_syntax.specs.declared.typed.Typed.{Typed, map-Typed, roll-Typed}
 use Rattle.ql_syntax.specs.declared.typed.Typed.TheOpen.{Typed-F, TypedLink-F}
 use Rattle.ql_syntax.specs.declared.typed.Typed.TheFolds.{fold-TypedLink, fold-roll-Typed, fold-roll-TypedLink, ind-Typed}
 use Rattle.ql_syntax.specs.declared.typed.TypedLink.{TypedLink, roll-TypedLink}
-use Rattle.ql_syntax.specs.Kinds.{is_integer}
+use Rattle.ql_value.specs.Kinds.{is_integer}
 use Rattle.ql_syntax.specs.Typing.{Typing, StepType, of_kind, among, given_type, truth_of, meet_all, chain_type, prefixed_type, converts, call_type, type_of, type_step, link_type}
 use Rattle.ql_rel.specs.Aggregates.{is_any, aggregate_step, aggregate_link, has_aggregate, link_has_aggregate}
 use Rattle.ql_rel.specs.PlanTypes.{group_step, type_by}

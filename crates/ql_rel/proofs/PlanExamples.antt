@@ -18,7 +18,7 @@ use Rattle.ql_syntax.specs.declared.typed.Typed.{Typed}
 use Rattle.ql_syntax.specs.declared.typed.Typed.TheOpen.{Typed-F}
 use Rattle.ql_syntax.specs.declared.typed.Typed.TheFolds.{fold-roll-Typed}
 use Rattle.ql_syntax.specs.declared.typed.Typed.TheVariants as t
-use Rattle.ql_syntax.specs.Kinds.{is_integer, is_truth}
+use Rattle.ql_value.specs.Kinds.{is_integer, is_truth}
 use Rattle.ql_syntax.specs.Typing.{Typing, of_kind, ill, among, meet, place_type}
 use Rattle.ql_rel.specs.declared.plan.Plan.{Plan}
 use Rattle.ql_rel.specs.declared.schema.Schema.{Schema}

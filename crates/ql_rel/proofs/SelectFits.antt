@@ -1,6 +1,6 @@
 -- The plan of a SELECT keeps what is promised of its types.
 use Rattle.std.proofs.Common.{◌≡◌, ℕ, suc, Bool, true, false, ◌||◌, if◌then◌else◌, inl, inr, List, [], ◌∷◌, ◌++◌, map, length, Option, Some, None, IfSome, Ok, refl, sym, ap, subst, ◌∙◌, append_assoc, append-nil}
-use Rattle.ql_syntax.specs.Kinds.{is_integer, is_truth}
+use Rattle.ql_value.specs.Kinds.{is_integer, is_truth}
 use Rattle.ql_syntax.specs.Typing.{Typing, IsTyped, among, type_of, place_type}
 use Rattle.ql_syntax.specs.declared.statement.ColumnDef.{ColumnDef}
 use Rattle.ql_syntax.specs.declared.statement.Statement.{Statement}

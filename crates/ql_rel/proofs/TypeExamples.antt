@@ -94,19 +94,19 @@ module _ (scope : Scope) where
   of function parts = expr_step scope (Expr-F.Call function false parts)
 
   abbrev among : Judged → List Judged → Judged
-  among part list = expr_step scope (Expr-F.IsIn part false list)
+  among part list = expr_step scope (Expr-F.IsIn false part list)
 
   abbrev not_among : Judged → List Judged → Judged
-  not_among part list = expr_step scope (Expr-F.IsIn part true list)
+  not_among part list = expr_step scope (Expr-F.IsIn true part list)
 
   abbrev in_select : Judged → Judged
-  in_select part = expr_step scope (Expr-F.IsInSelect part false tt)
+  in_select part = expr_step scope (Expr-F.IsInSelect false part tt)
 
   abbrev from_to : Judged → Judged → Judged → Judged
-  from_to part low high = expr_step scope (Expr-F.IsBetween part false low high)
+  from_to part low high = expr_step scope (Expr-F.IsBetween false part low high)
 
   abbrev null_test : Judged → Judged
-  null_test part = expr_step scope (Expr-F.IsNull part false)
+  null_test part = expr_step scope (Expr-F.IsNull false part)
 
 abbrev at_row : Judged → Answer Checked
 at_row j = j.answer false

@@ -12,7 +12,7 @@ use Rattle.ql_syntax.specs.declared.typed.Typed.TheOpen.{Typed-F, TypedLink-F}
 use Rattle.ql_syntax.specs.declared.typed.Typed.TheFolds.{fold-Typed, fold-TypedLink, fold-roll-Typed, fold-roll-TypedLink}
 use Rattle.ql_syntax.specs.declared.typed.TypedLink.{TypedLink, roll-TypedLink}
 use Rattle.ql_syntax.specs.Typing.{Typing, of_kind, among, given_type, meet, truth_of, meet_all, StepType, chain_type, prefixed_type, converts, call_type, constant_type, place_type}
-use Rattle.ql_syntax.specs.Kinds.{is_integer}
+use Rattle.ql_value.specs.Kinds.{is_integer}
 use Rattle.ql_rel.specs.Operands.{link}
 use Rattle.ql_rel.specs.PlanTypes.{aggregate_type, group_step, group_link, type_by}
 

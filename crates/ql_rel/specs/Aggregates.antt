@@ -49,10 +49,10 @@ call_step (Expr-F.Unary ops part) = part
 call_step (Expr-F.Paren part) = part
 call_step (Expr-F.Call function star parts) = is_aggregate function || is_any parts
 call_step (Expr-F.Convert kind part) = part
-call_step (Expr-F.IsIn part negated list) = part || is_any list
-call_step (Expr-F.IsInSelect part negated query) = part
-call_step (Expr-F.IsBetween part negated low high) = part || (low || high)
-call_step (Expr-F.IsNull part negated) = part
+call_step (Expr-F.IsIn negated part list) = part || is_any list
+call_step (Expr-F.IsInSelect negated part query) = part
+call_step (Expr-F.IsBetween negated part low high) = part || (low || high)
+call_step (Expr-F.IsNull negated part) = part
 call_step _ = false
 
 abbrev pub call_link : Link-F Bool (Unit {0}) (Unit {0}) (Unit {0}) (Unit {0}) Bool (Unit {0}) → Bool

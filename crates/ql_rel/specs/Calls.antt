@@ -7,7 +7,7 @@ use Rattle.ql_syntax.specs.declared.syntax.Function.{Function}
 use Rattle.ql_syntax.specs.declared.syntax.Function.TheVariants as f
 use Rattle.ql_syntax.specs.declared.typed.Typed.{Typed}
 use Rattle.ql_syntax.specs.declared.typed.Typed.TheVariants as t
-use Rattle.ql_syntax.specs.Kinds.{is_integer, is_truth}
+use Rattle.ql_value.specs.Kinds.{is_integer, is_truth}
 use Rattle.ql_syntax.specs.Typing.{of_kind, among, given_type, converts, call_type}
 use Rattle.ql_rel.specs.Answers.{Answer, refused, then_with}
 use Rattle.ql_rel.specs.Checked.{Literal, Checked, known, literal_in, kind_or_int64, ruled}

@@ -7,7 +7,7 @@ use Rattle.ql_value.specs.declared.value.Value.TheVariants as v
 use Rattle.ql_value.specs.declared.refusal.TheConstants.{TYPE, CONSTANT_RANGE}
 use Rattle.ql_syntax.specs.declared.typed.Typed.{Typed}
 use Rattle.ql_syntax.specs.declared.typed.Typed.TheVariants as t
-use Rattle.ql_syntax.specs.Kinds.{is_integer, same_kind}
+use Rattle.ql_value.specs.Kinds.{is_integer, same_kind}
 use Rattle.ql_syntax.specs.Typing.{Typing, of_kind, ill}
 use Rattle.ql_rel.specs.Answers.{Answer, refused}
 

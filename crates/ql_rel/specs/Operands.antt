@@ -9,7 +9,7 @@ use Rattle.ql_value.specs.declared.value.Kind.TheVariants as k
 use Rattle.ql_syntax.specs.declared.typed.Typed.{Typed}
 use Rattle.ql_syntax.specs.declared.typed.Typed.TheVariants as t
 use Rattle.ql_syntax.specs.declared.typed.TypedLink.{TypedLink, roll-TypedLink}
-use Rattle.ql_syntax.specs.Kinds.{is_truth}
+use Rattle.ql_value.specs.Kinds.{is_truth}
 use Rattle.ql_syntax.specs.Typing.{Typing, only_null, of_kind, among, meet_all, truth_of, operator_type, prefixed_type}
 use Rattle.ql_rel.specs.Answers.{Answer, refused, then_with, all_of}
 use Rattle.ql_rel.specs.Checked.{Literal, Checked, known, literal_of, take_kind, meet_type, is_number_type, kind_or_int64, ruled}

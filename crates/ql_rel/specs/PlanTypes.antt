@@ -1,7 +1,7 @@
 -- What a plan promises of the types of its expressions.
 use Rattle.std.specs.Prelude.{◌≡◌, Bool, true, false, not, List, [], ◌∷◌, ◌++◌, map, Option, Some, None, option_map, IfSome, Ok, Err}
 use Rattle.ql_value.specs.declared.value.Kind.TheVariants as k
-use Rattle.ql_syntax.specs.Kinds.{is_integer, is_truth}
+use Rattle.ql_value.specs.Kinds.{is_integer, is_truth}
 use Rattle.ql_syntax.specs.Typing.{Typing, only_null, of_kind, ill, IsTyped, among, given_type, meet, StepType, type_of, type_step}
 use Rattle.ql_syntax.specs.declared.syntax.Function.{Function}
 use Rattle.ql_syntax.specs.declared.syntax.Function.TheVariants as f

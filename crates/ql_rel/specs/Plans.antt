@@ -18,7 +18,7 @@ use Rattle.ql_syntax.specs.declared.syntax.Select.{Select, out-Select}
 use Rattle.ql_syntax.specs.declared.syntax.SetSource.{SetSource, out-SetSource}
 use Rattle.ql_syntax.specs.declared.typed.Typed.{Typed}
 use Rattle.ql_syntax.specs.declared.typed.Typed.TheVariants as t
-use Rattle.ql_syntax.specs.Kinds.{is_integer, is_truth}
+use Rattle.ql_value.specs.Kinds.{is_integer, is_truth}
 use Rattle.ql_syntax.specs.Typing.{Typing, of_kind, among}
 use Rattle.ql_rel.specs.declared.plan.Plan.{Plan}
 use Rattle.ql_rel.specs.declared.schema.Schema.{Schema}

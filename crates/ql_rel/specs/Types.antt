@@ -113,11 +113,11 @@ expr_step scope (Expr-F.Column set column) = record { ref = Some (record { set =
 expr_step scope (Expr-F.Paren part) = judged (λ a. then_with (part.answer a) (λ c. Ok (bracketed c)))
 expr_step scope (Expr-F.Call function star parts) = judged (λ a. call scope a function parts)
 expr_step scope (Expr-F.Convert kind part) = judged (λ a. then_with (part.answer a) (convert_to kind))
-expr_step scope (Expr-F.IsIn part negated list) = judged (λ a. then_with (part.answer a) (λ c. then_with (answers a list) (in_list negated c)))
-expr_step scope (Expr-F.IsInSelect part negated query) = judged (λ a. then_with (part.answer a) (λ c. refused LATER))
-expr_step scope (Expr-F.IsBetween part negated low high) =
+expr_step scope (Expr-F.IsIn negated part list) = judged (λ a. then_with (part.answer a) (λ c. then_with (answers a list) (in_list negated c)))
+expr_step scope (Expr-F.IsInSelect negated part query) = judged (λ a. then_with (part.answer a) (λ c. refused LATER))
+expr_step scope (Expr-F.IsBetween negated part low high) =
     judged (λ a. then_with (part.answer a) (λ c. then_with (low.answer a) (λ x. then_with (high.answer a) (between negated c x))))
-expr_step scope (Expr-F.IsNull part negated) = judged (λ a. then_with (part.answer a) (λ c. Ok (null_test negated c)))
+expr_step scope (Expr-F.IsNull negated part) = judged (λ a. then_with (part.answer a) (λ c. Ok (null_test negated c)))
 
 -- an operator of a chain and the part behind it
 abbrev pub link_step : Link-F Judged (Unit {0}) (Unit {0}) (Unit {0}) (Unit {0}) JudgedLink (Unit {0}) → JudgedLink

@@ -62,20 +62,20 @@ pub of_convert : (kind : Kind) (part : Expr) → ink_of_expr (e.Convert kind par
 of_convert kind part = ap ink_of_expr (sym (e.rolls-Convert kind part)) ∙ fold-roll-Expr Inks Inks Inks Inks Inks Inks Inks expr_step source_step field_step set_step join_step link_step select_step (Expr-F.Convert kind part)
 
 -- IN a list
-pub of_in : (part : Expr) (negated : Bool) (list : List Expr) → ink_of_expr (e.IsIn part negated list) ≡ ink_of_expr part ++ (space ∷ ink_of_not negated ++ (keyword w.In ∷ space ∷ bracketed (listed (map ink_of_expr list))))
-of_in part negated list = ap ink_of_expr (sym (e.rolls-IsIn part negated list)) ∙ fold-roll-Expr Inks Inks Inks Inks Inks Inks Inks expr_step source_step field_step set_step join_step link_step select_step (Expr-F.IsIn part negated list)
+pub of_in : (part : Expr) (negated : Bool) (list : List Expr) → ink_of_expr (e.IsIn negated part list) ≡ ink_of_expr part ++ (space ∷ ink_of_not negated ++ (keyword w.In ∷ space ∷ bracketed (listed (map ink_of_expr list))))
+of_in part negated list = ap ink_of_expr (sym (e.rolls-IsIn negated part list)) ∙ fold-roll-Expr Inks Inks Inks Inks Inks Inks Inks expr_step source_step field_step set_step join_step link_step select_step (Expr-F.IsIn negated part list)
 
 -- IN a SELECT
-pub of_in_select : (part : Expr) (negated : Bool) (query : Select) → ink_of_expr (e.IsInSelect part negated query) ≡ ink_of_expr part ++ (space ∷ ink_of_not negated ++ (keyword w.In ∷ space ∷ bracketed (ink_of_select query)))
-of_in_select part negated query = ap ink_of_expr (sym (e.rolls-IsInSelect part negated query)) ∙ fold-roll-Expr Inks Inks Inks Inks Inks Inks Inks expr_step source_step field_step set_step join_step link_step select_step (Expr-F.IsInSelect part negated query)
+pub of_in_select : (part : Expr) (negated : Bool) (query : Select) → ink_of_expr (e.IsInSelect negated part query) ≡ ink_of_expr part ++ (space ∷ ink_of_not negated ++ (keyword w.In ∷ space ∷ bracketed (ink_of_select query)))
+of_in_select part negated query = ap ink_of_expr (sym (e.rolls-IsInSelect negated part query)) ∙ fold-roll-Expr Inks Inks Inks Inks Inks Inks Inks expr_step source_step field_step set_step join_step link_step select_step (Expr-F.IsInSelect negated part query)
 
 -- BETWEEN
-pub of_between : (part : Expr) (negated : Bool) (low high : Expr) → ink_of_expr (e.IsBetween part negated low high) ≡ ink_of_expr part ++ (space ∷ ink_of_not negated ++ (keyword w.Between ∷ space ∷ ink_of_expr low ++ (space ∷ keyword w.And ∷ space ∷ ink_of_expr high)))
-of_between part negated low high = ap ink_of_expr (sym (e.rolls-IsBetween part negated low high)) ∙ fold-roll-Expr Inks Inks Inks Inks Inks Inks Inks expr_step source_step field_step set_step join_step link_step select_step (Expr-F.IsBetween part negated low high)
+pub of_between : (part : Expr) (negated : Bool) (low high : Expr) → ink_of_expr (e.IsBetween negated part low high) ≡ ink_of_expr part ++ (space ∷ ink_of_not negated ++ (keyword w.Between ∷ space ∷ ink_of_expr low ++ (space ∷ keyword w.And ∷ space ∷ ink_of_expr high)))
+of_between part negated low high = ap ink_of_expr (sym (e.rolls-IsBetween negated part low high)) ∙ fold-roll-Expr Inks Inks Inks Inks Inks Inks Inks expr_step source_step field_step set_step join_step link_step select_step (Expr-F.IsBetween negated part low high)
 
 -- IS NULL
-pub of_is_null : (part : Expr) (negated : Bool) → ink_of_expr (e.IsNull part negated) ≡ ink_of_expr part ++ (space ∷ keyword w.Is ∷ space ∷ ink_of_not negated ++ (keyword w.Null ∷ []))
-of_is_null part negated = ap ink_of_expr (sym (e.rolls-IsNull part negated)) ∙ fold-roll-Expr Inks Inks Inks Inks Inks Inks Inks expr_step source_step field_step set_step join_step link_step select_step (Expr-F.IsNull part negated)
+pub of_is_null : (part : Expr) (negated : Bool) → ink_of_expr (e.IsNull negated part) ≡ ink_of_expr part ++ (space ∷ keyword w.Is ∷ space ∷ ink_of_not negated ++ (keyword w.Null ∷ []))
+of_is_null part negated = ap ink_of_expr (sym (e.rolls-IsNull negated part)) ∙ fold-roll-Expr Inks Inks Inks Inks Inks Inks Inks expr_step source_step field_step set_step join_step link_step select_step (Expr-F.IsNull negated part)
 
 -- a table as a record set
 pub of_table : (table : List ℕ) → ink_of_source (source.Table table) ≡ name table ∷ []

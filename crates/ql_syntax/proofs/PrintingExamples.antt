@@ -40,7 +40,7 @@ pub a_chain : text_of (ink_of_expr (e.Chain a (roll-Link (record { op = bin.Eq; 
 a_chain = rw (of_chain, of_link, of_link, of_call, of_convert, of_column) refl
 
 -- IN a list
-pub not_in : text_of (ink_of_expr (e.IsIn a true (a ∷ e.Text (codes "\n") ∷ []))) ≡ codes "a NOT IN (a, \"\\n\")"
+pub not_in : text_of (ink_of_expr (e.IsIn true a (a ∷ e.Text (codes "\n") ∷ []))) ≡ codes "a NOT IN (a, \"\\n\")"
 not_in = rw (of_in, of_column, of_text) refl
 
 -- a SELECT

@@ -8,6 +8,5 @@ pub mod Ink
 pub mod Printing
 pub mod StatementPrinting
 pub mod ReadsBack
-pub mod Kinds
 pub mod Values
 pub mod Typing

@@ -168,11 +168,11 @@ expr_step (Expr-F.Column table column) = ink_of_column table column
 expr_step (Expr-F.Paren part) = bracketed part
 expr_step (Expr-F.Call function star parts) = name (function_bytes function) ∷ bracketed (listed parts)
 expr_step (Expr-F.Convert kind part) = small (word_of_kind kind) ∷ bracketed part
-expr_step (Expr-F.IsIn part negated list) = part ++ (space ∷ ink_of_not negated ++ (keyword w.In ∷ space ∷ bracketed (listed list)))
-expr_step (Expr-F.IsInSelect part negated query) = part ++ (space ∷ ink_of_not negated ++ (keyword w.In ∷ space ∷ bracketed query))
-expr_step (Expr-F.IsBetween part negated low high) =
+expr_step (Expr-F.IsIn negated part list) = part ++ (space ∷ ink_of_not negated ++ (keyword w.In ∷ space ∷ bracketed (listed list)))
+expr_step (Expr-F.IsInSelect negated part query) = part ++ (space ∷ ink_of_not negated ++ (keyword w.In ∷ space ∷ bracketed query))
+expr_step (Expr-F.IsBetween negated part low high) =
     part ++ (space ∷ ink_of_not negated ++ (keyword w.Between ∷ space ∷ low ++ (space ∷ keyword w.And ∷ space ∷ high)))
-expr_step (Expr-F.IsNull part negated) = part ++ (space ∷ keyword w.Is ∷ space ∷ ink_of_not negated ++ (keyword w.Null ∷ []))
+expr_step (Expr-F.IsNull negated part) = part ++ (space ∷ keyword w.Is ∷ space ∷ ink_of_not negated ++ (keyword w.Null ∷ []))
 
 -- an operator of a chain and the part behind it
 abbrev pub link_step : Link-F Inks Inks Inks Inks Inks Inks Inks → Inks

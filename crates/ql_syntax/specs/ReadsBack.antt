@@ -36,10 +36,10 @@ expr_step (Expr-F.Column table column) = e.Column table column
 expr_step (Expr-F.Paren part) = e.Paren part
 expr_step (Expr-F.Call function star parts) = e.Call function false parts
 expr_step (Expr-F.Convert kind part) = e.Convert kind part
-expr_step (Expr-F.IsIn part negated list) = e.IsIn part negated list
-expr_step (Expr-F.IsInSelect part negated query) = e.IsInSelect part negated query
-expr_step (Expr-F.IsBetween part negated low high) = e.IsBetween part negated low high
-expr_step (Expr-F.IsNull part negated) = e.IsNull part negated
+expr_step (Expr-F.IsIn negated part list) = e.IsIn negated part list
+expr_step (Expr-F.IsInSelect negated part query) = e.IsInSelect negated part query
+expr_step (Expr-F.IsBetween negated part low high) = e.IsBetween negated part low high
+expr_step (Expr-F.IsNull negated part) = e.IsNull negated part
 
 -- the source of a record set
 abbrev pub source_step : SetSource-F Expr SetSource Field FromSet Join Link Select → SetSource

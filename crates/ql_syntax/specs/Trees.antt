@@ -195,10 +195,10 @@ abbrev mutual
 
   -- a part with the predicate behind it, if there is one
   pub tested_of : Expr → Parse → Expr
-  tested_of part (present (node _ (left (pair n (left (pair _ (group (left a)))))))) = e.IsIn part (is_present n) (exprs_of a)
-  tested_of part (present (node _ (left (pair n (left (pair _ (group (right (pair q _))))))))) = e.IsInSelect part (is_present n) (select_of q)
-  tested_of part (present (node _ (left (pair n (right (pair _ (pair low (pair _ high)))))))) = e.IsBetween part (is_present n) (expr_of low) (expr_of high)
-  tested_of part (present (node _ (right (pair _ (pair n _))))) = e.IsNull part (is_present n)
+  tested_of part (present (node _ (left (pair n (left (pair _ (group (left a)))))))) = e.IsIn (is_present n) part (exprs_of a)
+  tested_of part (present (node _ (left (pair n (left (pair _ (group (right (pair q _))))))))) = e.IsInSelect (is_present n) part (select_of q)
+  tested_of part (present (node _ (left (pair n (right (pair _ (pair low (pair _ high)))))))) = e.IsBetween (is_present n) part (expr_of low) (expr_of high)
+  tested_of part (present (node _ (right (pair _ (pair n _))))) = e.IsNull (is_present n) part
   tested_of part _ = part
 
   -- the expression behind a keyword, if it is there

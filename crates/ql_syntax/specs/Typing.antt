@@ -14,7 +14,7 @@ use Rattle.ql_syntax.specs.declared.syntax.Function.TheVariants as f
 use Rattle.ql_syntax.specs.declared.typed.Typed.{Typed}
 use Rattle.ql_syntax.specs.declared.typed.Typed.TheOpen.{Typed-F, TypedLink-F}
 use Rattle.ql_syntax.specs.declared.typed.Typed.TheFolds.{fold-Typed}
-use Rattle.ql_syntax.specs.Kinds.{is_integer, is_truth, is_text, is_byte_list, same_kind}
+use Rattle.ql_value.specs.Kinds.{is_integer, is_truth, is_text, is_byte_list, same_kind}
 
 -- what is known of the values of an expression: they are all NULL, NULL or of a kind, or it has no type
 pub data Typing : Type 0 where

@@ -23,7 +23,7 @@ use Rattle.ql_syntax.specs.declared.typed.Typed.{Typed}
 use Rattle.ql_syntax.specs.declared.typed.TypedLink.{TypedLink}
 use Rattle.ql_syntax.specs.declared.typed.Typed.TheOpen.{Typed-F, TypedLink-F}
 use Rattle.ql_syntax.specs.declared.typed.Typed.TheFolds.{fold-Typed, fold-TypedLink}
-use Rattle.ql_syntax.specs.Kinds.{is_integer, is_truth, is_byte_list}
+use Rattle.ql_value.specs.Kinds.{is_integer, is_truth, is_byte_list}
 
 -- why an expression has no value: a divisor is 0, a number is outside the kind that it meets, a shift count is negative
 pub data Refused : Type 0 where

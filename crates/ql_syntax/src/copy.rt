@@ -19,29 +19,24 @@ fn both<A: Drop, B: Drop>(
     Ok((a, b))
 }
 
-fn copy_bytes(alloc: Global, bytes: &Bytes) -> Result<Bytes, NoMemory>
-    ensures { IfOk result (λ copy. copy ≡ bytes.now) }
-{
-    let mut copy = Bytes::new(alloc);
-    copy.extend(bytes.as_slice())?;
-    Ok(copy)
-}
-
-fn copy_ops(alloc: Global, ops: &UnOps) -> Result<UnOps, NoMemory>
+fn copy_ops(alloc: Global, ops: &Boxed<UnOps>) -> Result<Boxed<UnOps>, NoMemory>
     ensures { IfOk result (λ copy. copy ≡ ops.now) }
 {
-    let mut copy = UnOps::new(alloc);
-    copy.extend(ops.as_slice())?;
-    Ok(copy)
+    let copy = UnOps::from_slice(alloc, ops.get().as_slice())?;
+    Boxed::new(alloc, copy)
 }
 
-fn copy_name(alloc: Global, name: &Name) -> Result<Name, NoMemory>
+fn copy_name(alloc: Global, name: &Boxed<Name>) -> Result<Boxed<Name>, NoMemory>
     ensures { IfOk result (λ copy. copy ≡ name.now) }
 {
-    Name::new(alloc, name.as_slice())
+    let copy = Name::new(alloc, name.get().as_slice())?;
+    Boxed::new(alloc, copy)
 }
 
-fn copy_alias(alloc: Global, alias: &Option<Name>) -> Result<Option<Name>, NoMemory>
+fn copy_alias(
+    alloc: Global,
+    alias: &Option<Boxed<Name>>,
+) -> Result<Option<Boxed<Name>>, NoMemory>
     ensures { IfOk result (λ copy. copy ≡ alias.now) }
 {
     match alias {
@@ -75,21 +70,22 @@ fn copy_link(alloc: Global, link: &Link) -> Result<Link, NoMemory>
 }
 
 #[cycle(copy)]
-fn copy_links(alloc: Global, links: &Links) -> Result<Links, NoMemory>
+fn copy_links(alloc: Global, links: &Boxed<Links>) -> Result<Boxed<Links>, NoMemory>
     ensures { IfOk result (λ copy. copy ≡ links.now) }
 {
-    let mut copy = Links::new(alloc);
+    let links = links.get();
+    let mut copy = Links::with_capacity(alloc, links.len())?;
     'links: for link in links.as_slice() {
         copy.push(copy_link(alloc, link)?)?;
     }
-    Ok(copy)
+    Boxed::new(alloc, copy)
 }
 
 #[cycle(copy)]
 fn copy_exprs(alloc: Global, exprs: &Exprs) -> Result<Exprs, NoMemory>
     ensures { IfOk result (λ copy. copy ≡ exprs.now) }
 {
-    let mut copy = Exprs::new(alloc);
+    let mut copy = Exprs::with_capacity(alloc, exprs.len())?;
     'exprs: for expr in exprs.as_slice() {
         copy.push(copy_expr(alloc, expr)?)?;
     }
@@ -97,11 +93,25 @@ fn copy_exprs(alloc: Global, exprs: &Exprs) -> Result<Exprs, NoMemory>
 }
 
 #[cycle(copy)]
-fn copy_option(alloc: Global, expr: &Option<Expr>) -> Result<Option<Expr>, NoMemory>
+fn copy_list(alloc: Global, exprs: &Boxed<Exprs>) -> Result<Boxed<Exprs>, NoMemory>
+    ensures { IfOk result (λ copy. copy ≡ exprs.now) }
+{
+    let copy = copy_exprs(alloc, exprs.get())?;
+    Boxed::new(alloc, copy)
+}
+
+#[cycle(copy)]
+fn copy_option(
+    alloc: Global,
+    expr: &Option<Boxed<Expr>>,
+) -> Result<Option<Boxed<Expr>>, NoMemory>
     ensures { IfOk result (λ copy. copy ≡ expr.now) }
 {
     match expr {
-        Some(expr) => Ok(Some(copy_expr(alloc, expr)?)),
+        Some(expr) => {
+            let copy = copy_expr(alloc, expr.get())?;
+            Ok(Some(Boxed::new(alloc, copy)?))
+        }
         None => Ok(None),
     }
 }
@@ -119,7 +129,7 @@ fn copy_field(alloc: Global, field: &Field) -> Result<Field, NoMemory>
 fn copy_fields(alloc: Global, fields: &Fields) -> Result<Fields, NoMemory>
     ensures { IfOk result (λ copy. copy ≡ fields.now) }
 {
-    let mut copy = Fields::new(alloc);
+    let mut copy = Fields::with_capacity(alloc, fields.len())?;
     'fields: for field in fields.as_slice() {
         copy.push(copy_field(alloc, field)?)?;
     }
@@ -149,7 +159,7 @@ fn copy_set(alloc: Global, set: &FromSet) -> Result<FromSet, NoMemory>
 fn copy_sets(alloc: Global, sets: &FromSets) -> Result<FromSets, NoMemory>
     ensures { IfOk result (λ copy. copy ≡ sets.now) }
 {
-    let mut copy = FromSets::new(alloc);
+    let mut copy = FromSets::with_capacity(alloc, sets.len())?;
     'sets: for set in sets.as_slice() {
         copy.push(copy_set(alloc, set)?)?;
     }
@@ -157,18 +167,23 @@ fn copy_sets(alloc: Global, sets: &FromSets) -> Result<FromSets, NoMemory>
 }
 
 #[cycle(copy)]
-fn copy_join(alloc: Global, join: &Option<Join>) -> Result<Option<Join>, NoMemory>
+fn copy_join(
+    alloc: Global,
+    join: &Option<Boxed<Join>>,
+) -> Result<Option<Boxed<Join>>, NoMemory>
     ensures { IfOk result (λ copy. copy ≡ join.now) }
 {
     let Some(join) = join else {
         return Ok(None);
     };
+    let join = join.get();
     let (set, on) = both(copy_set(alloc, &join.set), copy_expr(alloc, &join.on))?;
-    Ok(Some(Join {
+    let copy = Join {
         side: join.side,
         set,
         on,
-    }))
+    };
+    Ok(Some(Boxed::new(alloc, copy)?))
 }
 
 #[cycle(copy)]
@@ -223,7 +238,7 @@ pub fn copy_expr(alloc: Global, expr: &Expr) -> Result<Expr, NoMemory>
             Ok(Expr::Unary { ops, part })
         }
         Expr::Number(number) => Ok(Expr::Number(*number)),
-        Expr::Text(text) => Ok(Expr::Text(copy_bytes(alloc, text)?)),
+        Expr::Text(text) => Ok(Expr::Text(Bytes::from_slice(alloc, text.as_slice())?)),
         Expr::Truth(truth) => Ok(Expr::Truth(*truth)),
         Expr::Null => Ok(Expr::Null),
         Expr::Column { table, column } => {
@@ -244,40 +259,40 @@ pub fn copy_expr(alloc: Global, expr: &Expr) -> Result<Expr, NoMemory>
             kind: *kind,
             part: copy_boxed(alloc, part)?,
         }),
-        Expr::IsIn { part, not, list } => {
-            let (part, list) = both(copy_boxed(alloc, part), copy_exprs(alloc, list))?;
+        Expr::IsIn { not, part, list } => {
+            let (part, list) = both(copy_boxed(alloc, part), copy_list(alloc, list))?;
             Ok(Expr::IsIn {
-                part,
                 not: *not,
+                part,
                 list,
             })
         }
-        Expr::IsInSelect { part, not, query } => {
+        Expr::IsInSelect { not, part, query } => {
             let (part, query) = both(copy_boxed(alloc, part), copy_query(alloc, query))?;
             Ok(Expr::IsInSelect {
-                part,
                 not: *not,
+                part,
                 query,
             })
         }
         Expr::IsBetween {
-            part,
             not,
+            part,
             low,
             high,
         } => {
             let bounds = both(copy_boxed(alloc, low), copy_boxed(alloc, high));
             let (part, (low, high)) = both(copy_boxed(alloc, part), bounds)?;
             Ok(Expr::IsBetween {
-                part,
                 not: *not,
+                part,
                 low,
                 high,
             })
         }
-        Expr::IsNull { part, not } => Ok(Expr::IsNull {
-            part: copy_boxed(alloc, part)?,
+        Expr::IsNull { not, part } => Ok(Expr::IsNull {
             not: *not,
+            part: copy_boxed(alloc, part)?,
         }),
     }
 }

@@ -1,5 +1,5 @@
 use crate::syntax::{Expr, Exprs, Select};
-use ql_edge::{Items, Name, Names};
+use ql_edge::{Boxed, Items, Name, Names};
 use ql_value::Kind;
 
 /// A column of a table: its name and kind, what its values must meet, and what stands in place of NULL.
@@ -9,8 +9,8 @@ pub struct ColumnDef {
     pub kind: Kind,
     pub not_null: bool,
     /// A condition that every row meets. With NOT NULL there is none.
-    pub rule: Option<Expr>,
-    pub default: Option<Expr>,
+    pub rule: Option<Boxed<Expr>>,
+    pub default: Option<Boxed<Expr>>,
 }
 
 /// The columns of a table.
@@ -30,7 +30,7 @@ pub type ExprRows = Items<Exprs>;
 #[derive(Drop)]
 pub enum RowSource {
     Rows(ExprRows),
-    Query(Select),
+    Query(Boxed<Select>),
 }
 
 /// A column of an UPDATE and its new value.
@@ -49,7 +49,7 @@ pub enum Statement {
     Begin,
     Commit,
     Rollback,
-    Query(Select),
+    Query(Boxed<Select>),
     CreateTable {
         quiet: bool,
         table: Name,
@@ -61,7 +61,7 @@ pub enum Statement {
     },
     AddColumn {
         table: Name,
-        column: ColumnDef,
+        column: Boxed<ColumnDef>,
     },
     DropColumn {
         table: Name,
@@ -72,7 +72,7 @@ pub enum Statement {
         quiet: bool,
         index: Name,
         table: Name,
-        item: Item,
+        item: Boxed<Item>,
     },
     DropIndex {
         quiet: bool,
@@ -82,16 +82,16 @@ pub enum Statement {
     Insert {
         table: Name,
         columns: Names,
-        source: RowSource,
+        source: Boxed<RowSource>,
     },
     Update {
         table: Name,
         sets: Assigns,
-        filter: Option<Expr>,
+        filter: Option<Boxed<Expr>>,
     },
     Delete {
         table: Name,
-        filter: Option<Expr>,
+        filter: Option<Boxed<Expr>>,
     },
     Truncate {
         table: Name,

@@ -18,17 +18,19 @@ pub enum Function {
 }
 
 /// An expression as it is written. A part that stands alone in its place is that part.
+///
+/// What does not fit into four words is boxed, since a script may hold millions of them.
 #[cycle(syntax)]
 #[derive(Drop)]
 pub enum Expr {
     /// Parts between operators of one level, from left to right. There is at least one link.
     Chain {
         first: Boxed<Expr>,
-        rest: Links,
+        rest: Boxed<Links>,
     },
     /// Operators before a part. There is at least one.
     Unary {
-        ops: UnOps,
+        ops: Boxed<UnOps>,
         part: Boxed<Expr>,
     },
     Number(u64),
@@ -37,8 +39,8 @@ pub enum Expr {
     Truth(bool),
     Null,
     Column {
-        table: Option<Name>,
-        column: Name,
+        table: Option<Boxed<Name>>,
+        column: Boxed<Name>,
     },
     /// A part in brackets.
     Paren(Boxed<Expr>),
@@ -53,24 +55,24 @@ pub enum Expr {
         part: Boxed<Expr>,
     },
     IsIn {
-        part: Boxed<Expr>,
         not: bool,
-        list: Exprs,
+        part: Boxed<Expr>,
+        list: Boxed<Exprs>,
     },
     IsInSelect {
-        part: Boxed<Expr>,
         not: bool,
+        part: Boxed<Expr>,
         query: Boxed<Select>,
     },
     IsBetween {
-        part: Boxed<Expr>,
         not: bool,
+        part: Boxed<Expr>,
         low: Boxed<Expr>,
         high: Boxed<Expr>,
     },
     IsNull {
-        part: Boxed<Expr>,
         not: bool,
+        part: Boxed<Expr>,
     },
 }
 
@@ -96,17 +98,17 @@ pub struct Select {
     pub fields: Fields,
     /// The record sets behind FROM, none where it is left out.
     pub sets: FromSets,
-    pub join: Option<Join>,
+    pub join: Option<Boxed<Join>>,
     /// The condition behind WHERE.
-    pub filter: Option<Expr>,
+    pub filter: Option<Boxed<Expr>>,
     /// The columns behind GROUP BY.
     pub groups: Exprs,
     /// The expressions behind ORDER BY.
     pub keys: Exprs,
     /// Whether DESC stands behind them.
     pub descending: bool,
-    pub limit: Option<Expr>,
-    pub offset: Option<Expr>,
+    pub limit: Option<Boxed<Expr>>,
+    pub offset: Option<Boxed<Expr>>,
 }
 
 /// What a SELECT shows in one column, and the name that AS gives it.
@@ -114,7 +116,7 @@ pub struct Select {
 #[derive(Drop)]
 pub struct Field {
     pub expr: Expr,
-    pub alias: Option<Name>,
+    pub alias: Option<Boxed<Name>>,
 }
 
 /// The fields of a SELECT.
@@ -124,7 +126,7 @@ pub type Fields = Items<Field>;
 #[cycle(syntax)]
 #[derive(Drop)]
 pub enum SetSource {
-    Table(Name),
+    Table(Boxed<Name>),
     Query(Boxed<Select>),
 }
 
@@ -133,7 +135,7 @@ pub enum SetSource {
 #[derive(Drop)]
 pub struct FromSet {
     pub source: SetSource,
-    pub alias: Option<Name>,
+    pub alias: Option<Boxed<Name>>,
 }
 
 /// The record sets of a FROM.

@@ -1,5 +1,5 @@
 -- The laws of kinds.
-use Rattle.std.proofs.Common.{◌≡◌, ℕ, ℤ, Bool, true, false, ◌++◌, List, IfOk, Result, Ok, Err, unsigned_abs, bit_and, bit_or, bit_xor, int_lt, ◌==◌, if◌then◌else◌, ◌&&◌, int_le, pos, ◌≤ℤ◌, refl, sym, subst}
+use Rattle.std.proofs.Common.{◌≡◌, ℕ, ℤ, Bool, true, false, ◌++◌, List, IfOk, Result, Ok, Err, unsigned_abs, bit_and, bit_or, bit_xor, int_lt, ◌==◌, if◌then◌else◌, ◌&&◌, int_le, pos, ◌≤ℤ◌, IsTrue, refl, sym, subst}
 use Rattle.std.proofs.lemmas.Float.{T_from_true}
 use Rattle.ql_value.specs.declared.value.Kind.{Kind}
 use Rattle.ql_value.specs.declared.value.Kind.TheVariants as k
@@ -11,7 +11,9 @@ use Rattle.ql_value.specs.declared.fault.ValueFault.{ValueFault}
 use Rattle.ql_value.specs.declared.fault.ValueFault.TheVariants as fault
 use Rattle.ql_value.specs.Number.{HasKind, IsInteger, least, greatest, residue}
 use Rattle.ql_value.specs.Arith.{arith_of, flipped, on_numbers}
-use Rattle.ql_value.specs.Convert.{IsConvertible, IsBool, IsBytes, converted, fitted, with_bytes}
+use Rattle.ql_value.specs.Kinds.{is_truth, is_byte_list}
+use Rattle.std.proofs.lemmas.Bool.{false≢true}
+use Rattle.ql_value.specs.Convert.{IsConvertible, converted, fitted, with_bytes}
 use Rattle.ql_value.specs.KindLaws.{KindLaws}
 use Rattle.ql_value.proofs.ArithLaws.{wrapped_has}
 
@@ -70,10 +72,10 @@ arithmetic o kind own (v.Blob _) (v.Int _ _) h g = tt
 arithmetic o kind own (v.Blob _) (v.Text _) h g = tt
 arithmetic o kind own (v.Blob _) (v.Blob _) h g = tt
 
-bytes_kind : (kind : Kind) → IsBytes kind → (bytes : List ℕ) → HasKind kind (with_bytes kind (v.Text bytes)) × HasKind kind (with_bytes kind (v.Blob bytes))
+bytes_kind : (kind : Kind) → IsTrue (is_byte_list kind) → (bytes : List ℕ) → HasKind kind (with_bytes kind (v.Text bytes)) × HasKind kind (with_bytes kind (v.Blob bytes))
 bytes_kind k.Text h bytes = (tt, tt)
 bytes_kind k.Blob h bytes = (tt, tt)
-bytes_kind _ h bytes = absurd h
+bytes_kind _ h bytes = absurd (false≢true h)
 
 null_kind : (kind : Kind) → HasKind kind (with_bytes kind v.Null)
 null_kind k.Bool = tt
@@ -88,9 +90,9 @@ null_kind k.Uint64 = tt
 null_kind k.Text = tt
 null_kind k.Blob = tt
 
-bool_kind : (kind : Kind) (b : Bool) → IsBool kind → HasKind kind (with_bytes kind (v.Bool b))
+bool_kind : (kind : Kind) (b : Bool) → IsTrue (is_truth kind) → HasKind kind (with_bytes kind (v.Bool b))
 bool_kind k.Bool b h = tt
-bool_kind _ b h = absurd h
+bool_kind _ b h = absurd (false≢true h)
 
 conversion : (kind : Kind) (x : Value) → IsConvertible kind x → HasKind kind (converted kind x)
 conversion kind v.Null h = null_kind kind

@@ -1,11 +1,12 @@
 -- Conversions, and numbers that have to fit a kind.
-use Rattle.std.specs.Prelude.{ℤ, Result, Ok, Err, if◌then◌else◌}
+use Rattle.std.specs.Prelude.{ℤ, IsTrue, Result, Ok, Err, if◌then◌else◌}
 use Rattle.ql_value.specs.declared.value.Kind.{Kind}
 use Rattle.ql_value.specs.declared.value.Kind.TheVariants as k
 use Rattle.ql_value.specs.declared.value.Value.{Value}
 use Rattle.ql_value.specs.declared.value.Value.TheVariants as v
 use Rattle.ql_value.specs.declared.fault.ValueFault.{ValueFault}
 use Rattle.ql_value.specs.declared.fault.ValueFault.TheVariants as fault
+use Rattle.ql_value.specs.Kinds.{is_truth, is_byte_list}
 use Rattle.ql_value.specs.Number.{IsInteger, has_number, wrapped}
 
 -- the value is a string or a blob: to copy or to convert another takes no memory
@@ -14,24 +15,13 @@ IsByteList (v.Text _) = Unit {0}
 IsByteList (v.Blob _) = Unit {0}
 IsByteList _ = ⊥
 
--- a string or a blob may become either
-abbrev pub IsBytes : Kind → Type 0
-IsBytes k.Text = Unit {0}
-IsBytes k.Blob = Unit {0}
-IsBytes _ = ⊥
-
--- bool has one kind
-abbrev pub IsBool : Kind → Type 0
-IsBool k.Bool = Unit {0}
-IsBool _ = ⊥
-
 -- what a conversion to the kind takes: NULL, and a value of the same group of kinds
 abbrev pub IsConvertible : Kind → Value → Type 0
 IsConvertible kind v.Null = Unit {0}
-IsConvertible kind (v.Bool _) = IsBool kind
+IsConvertible kind (v.Bool _) = IsTrue (is_truth kind)
 IsConvertible kind (v.Int _ _) = IsInteger kind
-IsConvertible kind (v.Text _) = IsBytes kind
-IsConvertible kind (v.Blob _) = IsBytes kind
+IsConvertible kind (v.Text _) = IsTrue (is_byte_list kind)
+IsConvertible kind (v.Blob _) = IsTrue (is_byte_list kind)
 
 -- the bytes as a value of the kind
 abbrev pub with_bytes : Kind → Value → Value

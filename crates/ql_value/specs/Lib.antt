@@ -2,6 +2,7 @@ pub mod Arith
 pub mod ArithLaws
 pub mod Convert
 pub mod KindLaws
+pub mod Kinds
 pub mod Length
 pub mod Number
 pub mod Order

@@ -1,6 +1,7 @@
 -- The numbers of the integer kinds, and how an integer is brought into one.
-use Rattle.std.specs.Prelude.{◌≡◌, ℕ, ◌^◌, ◌-◌, ℤ, pos, neg_ℤ, ◌-ℤ◌, ◌≤ℤ◌, Bool, ◌&&◌, int_le, unsigned_abs, if◌then◌else◌}
+use Rattle.std.specs.Prelude.{◌≡◌, ℕ, ◌^◌, ◌-◌, ℤ, IsTrue, pos, neg_ℤ, ◌-ℤ◌, ◌≤ℤ◌, Bool, ◌&&◌, int_le, unsigned_abs, if◌then◌else◌}
 use Rattle.std.specs.Int.{int_rem_euclid}
+use Rattle.ql_value.specs.Kinds.{is_integer}
 use Rattle.ql_value.specs.declared.value.Kind.{Kind}
 use Rattle.ql_value.specs.declared.value.Kind.TheVariants as k
 use Rattle.ql_value.specs.declared.value.Value.{Value}
@@ -8,10 +9,7 @@ use Rattle.ql_value.specs.declared.value.Value.TheVariants as v
 
 -- the kinds whose values are numbers
 abbrev pub IsInteger : Kind → Type 0
-IsInteger k.Bool = ⊥
-IsInteger k.Text = ⊥
-IsInteger k.Blob = ⊥
-IsInteger _ = Unit {0}
+IsInteger kind = IsTrue (is_integer kind)
 
 -- how many bits a number of the kind has
 abbrev pub width : Kind → ℕ

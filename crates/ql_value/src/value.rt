@@ -1,5 +1,6 @@
 ghost use Rattle.std.specs.Prelude.{◌≡◌, IfOk, OnErr};
 ghost use Rattle.ql_value.specs.Convert.{IsByteList};
+ghost use Rattle.ql_value.specs.Kinds as spec;
 
 use ql_edge::{Bytes, Items, NoMemory};
 use std::alloc::Global;
@@ -18,6 +19,40 @@ pub enum Kind {
     Uint64,
     Text,
     Blob,
+}
+
+impl Kind {
+    /// Whether its values are numbers.
+    pub fn is_integer(self) -> bool
+        ensures { result ≡ spec.is_integer self }
+    {
+        match self {
+            Kind::Bool | Kind::Text | Kind::Blob => false,
+            Kind::Int8 | Kind::Int16 | Kind::Int32 | Kind::Int64 => true,
+            Kind::Uint8 | Kind::Uint16 | Kind::Uint32 | Kind::Uint64 => true,
+        }
+    }
+
+    /// Whether its values are truths.
+    pub fn is_truth(self) -> bool
+        ensures { result ≡ spec.is_truth self }
+    {
+        matches!(self, Kind::Bool)
+    }
+
+    /// Whether its values are strings.
+    pub fn is_text(self) -> bool
+        ensures { result ≡ spec.is_text self }
+    {
+        matches!(self, Kind::Text)
+    }
+
+    /// Whether its values are strings or blobs.
+    pub fn is_byte_list(self) -> bool
+        ensures { result ≡ spec.is_byte_list self }
+    {
+        matches!(self, Kind::Text | Kind::Blob)
+    }
 }
 
 /// A value of a row. The number of an `Int` is one of its kind.

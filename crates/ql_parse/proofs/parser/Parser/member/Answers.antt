@@ -16,13 +16,13 @@ pub returns-in-Listed : goal.returns-in-Listed
 returns-in-Listed g c = record {
   parse = pair (c.in_ok-expect_word.ensures c.args.self.now.room).parse (group c.in_ok-members.ensures.parse);
   reads = both (c.in_ok-expect_word.ensures c.args.self.now.room).reads c.in_ok-members.ensures.reads;
-  means = ap (λ q. e.IsIn q c.args.not c.in-Listed.list) c.in_ok-part.ensures ∙ ap (among c.args.part c.args.not) (sym c.in-Listed.is ∙ c.in_ok-members.ensures.means);
+  means = ap (λ q. e.IsIn c.args.not q c.in-Listed.list) c.in_ok-part.ensures ∙ ap (among c.args.part c.args.not) (sym c.in-Listed.is ∙ c.in_ok-members.ensures.means);
 }
 
 pub returns-in_ok-new-in-Query : goal.returns-in_ok-new-in-Query
 returns-in_ok-new-in-Query g c = record {
   parse = pair (c.in_ok-expect_word.ensures c.args.self.now.room).parse (group c.in_ok-members.ensures.parse);
   reads = both (c.in_ok-expect_word.ensures c.args.self.now.room).reads c.in_ok-members.ensures.reads;
-  means = ap (λ q. e.IsInSelect q c.args.not c.in_ok-new-in-Query.field-0) c.in_ok-part.ensures ∙ ap (e.IsInSelect c.args.part c.args.not) c.in_ok-new-in-Query.ensures
+  means = ap (λ q. e.IsInSelect c.args.not q c.in_ok-new-in-Query.field-0) c.in_ok-part.ensures ∙ ap (e.IsInSelect c.args.not c.args.part) c.in_ok-new-in-Query.ensures
       ∙ ap (among c.args.part c.args.not) (sym c.in-Query.is ∙ c.in_ok-members.ensures.means);
 }
