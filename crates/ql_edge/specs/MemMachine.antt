@@ -1,5 +1,7 @@
 -- What a machine in memory shows beside its meanings as a device.
-use Rattle.std.specs.Prelude.{◌≡◌, ℕ, ◌+◌, ◌-◌, ◌^◌, min, List, length, Contains, Option, Some, None}
+use Rattle.std.specs.Prelude.{◌≡◌, ℕ, ◌+◌, ◌-◌, ◌^◌, min, List, length, Contains, Option, Some, None, Result, Ok, Err}
+use Rattle.ql_edge.specs.declared.fault.DeviceFault.{DeviceFault}
+use Rattle.ql_edge.specs.declared.fault.DeviceFault.TheVariants as fault
 use Rattle.ql_edge.specs.declared.memory.MemMachine.{MemMachine}
 use Rattle.ql_edge.specs.declared.memory.MemPlan.{MemPlan}
 
@@ -28,8 +30,14 @@ room_under (Some total) shown piece = min piece (total - shown)
 abbrev pub room_of : MemMachine → ℕ → ℕ
 room_of m piece = room_under (plan_of m).show_total (length m.shown) piece
 
--- a call was counted, and the files and the plan stay as they are
-pub record CountsCall (before now : MemMachine) : Type 0 where
-  pub calls : calls_of now ≡ min (calls_of before + 1) (2 ^ 64 - 1)
+-- how many calls there were after a call: one that answers want of memory is not counted
+abbrev pub calls_after : Result ℕ DeviceFault → ℕ → ℕ
+calls_after (Ok _) before = min (before + 1) (2 ^ 64 - 1)
+calls_after (Err fault.Failed) before = min (before + 1) (2 ^ 64 - 1)
+calls_after (Err fault.NoMemory) before = before
+
+-- a call was counted by what it answers, and the files and the plan stay as they are
+pub record CountsCall (result : Result ℕ DeviceFault) (before now : MemMachine) : Type 0 where
+  pub calls : calls_of now ≡ calls_after result (calls_of before)
   pub files : files_of now ≡ files_of before
   pub plan : plan_of now ≡ plan_of before

@@ -1,3 +1,4 @@
+//! Why a call on a device, or a growth, was refused.
 ghost use Rattle.std.specs.Prelude.{◌≡◌};
 ghost use Rattle.ql_edge.specs.declared.fault.DeviceFault.TheVariants as variant;
 

@@ -1,3 +1,4 @@
+//! The machine that the program was started on.
 ghost use Rattle.std.specs.Prelude.{◌≡◌, ◌<◌, ◌≤◌, [], length, None, IfSome};
 ghost use Rattle.ql_edge.specs.Cause.{Rose};
 

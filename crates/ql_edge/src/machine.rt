@@ -1,5 +1,7 @@
+//! What a program reads.
 ghost use Rattle.std.specs.Prelude.{◌≡◌, ◌<◌, ◌≤◌, ◌↔◌, [], length, take, drop, option_map, IfOk, OnErr, IfSome};
 ghost use Rattle.ql_edge.specs.Cause.{IsCaused};
+ghost use Rattle.ql_edge.specs.Frame.{Keeps};
 
 use crate::{DeviceFault, Shows};
 
@@ -16,7 +18,6 @@ pub trait Machine: Shows {
         ensures end { IfOk result (λ n. IfSome (Self.left self.old) (λ script. (n ≡ 0) ↔ (script ≡ []))) }
         ensures left { IfOk result (λ n. Self.left self.new ≡ option_map (drop n) (Self.left self.old)) }
         ensures refused { OnErr result (Self.left self.new ≡ Self.left self.old) }
-        ensures told { Self.told self.new ≡ Self.told self.old }
-        ensures fixed { Self.fixed self.new ≡ Self.fixed self.old }
+        ensures frame { Keeps Self.told Self.fixed self.old self.new }
         ensures cause { IsCaused result (Self.faults self.old) (Self.faults self.new) };
 }

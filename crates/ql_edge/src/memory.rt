@@ -1,5 +1,7 @@
+//! A machine in memory, for tests.
 ghost use Rattle.std.specs.Prelude.{◌≡◌, ◌⊎◌, ◌↔◌, ℕ, ◌+◌, ◌-◌, ◌^◌, ◌<◌, ◌≤◌, List, [], length, min, take, drop, option_map, Some, Err, Contains, IfOk, IfErr, IfSome, OnOk, OnErr, IsSomeAnd, refl};
 ghost use Rattle.ql_edge.specs.Cause.{IsCaused};
+ghost use Rattle.ql_edge.specs.Frame.{Keeps};
 ghost use Rattle.ql_edge.specs.Told.{with_shown, with_warned};
 ghost use Rattle.ql_edge.specs.declared.fault.DeviceFault.TheVariants as device;
 ghost use Rattle.std.proofs.Common.{◌∙◌};
@@ -103,17 +105,28 @@ impl MemMachine {
     }
 }
 
-/// Counts a device call, which fails where the plan has its number.
-fn count_call(fails: &Numbers, calls: &mut u64, faults: &mut u64) -> Result<(), DeviceFault>
+/// Counts a call that fails.
+fn count_failure(calls: &mut u64, faults: &mut u64) -> DeviceFault
+    ensures fault { result ≡ DeviceFault.Failed }
     ensures calls { calls.new ≡ min (calls.old + 1) (2 ^ 64 - 1) }
-    ensures ok { OnOk result (¬ Contains fails.now calls.old × (faults.new ≡ faults.old)) }
-    ensures err { IfErr result (λ fault. (fault ≡ DeviceFault.Failed) × Contains fails.now calls.old × (faults.new ≡ min (faults.old + 1) (2 ^ 64 - 1))) }
+    ensures faults { faults.new ≡ min (faults.old + 1) (2 ^ 64 - 1) }
 {
-    let number = *calls;
     *calls = calls.saturating_add(1);
-    if fails.as_slice().contains(&number) {
-        *faults = faults.saturating_add(1);
-        return Err(DeviceFault::Failed);
+    *faults = faults.saturating_add(1);
+    DeviceFault::Failed
+}
+
+/// Lets a call fail where the plan has its number. One that goes on is not counted yet.
+fn check_plan(fails: &Numbers, calls: &mut u64, faults: &mut u64) -> Result<(), DeviceFault>
+    ensures ok { OnOk result
+        (¬ Contains fails.now calls.old × (calls.new ≡ calls.old) × (faults.new ≡ faults.old)) }
+    ensures err { OnErr result (Contains fails.now calls.old) }
+    ensures failed { IfErr result (λ fault. fault ≡ DeviceFault.Failed) }
+    ensures counted { OnErr result ((calls.new ≡ min (calls.old + 1) (2 ^ 64 - 1))
+        × (faults.new ≡ min (faults.old + 1) (2 ^ 64 - 1))) }
+{
+    if fails.as_slice().contains(calls) {
+        return Err(count_failure(calls, faults));
     }
     Ok(())
 }
@@ -141,25 +154,24 @@ impl Shows for MemMachine {
         ensures shown { IfOk result (λ n. ⟦<MemMachine as Shows>⟧.told self.new ≡ with_shown (take n piece.now) (⟦<MemMachine as Shows>⟧.told self.old)) }
         ensures refused { OnErr result (⟦<MemMachine as Shows>⟧.told self.new ≡ ⟦<MemMachine as Shows>⟧.told self.old) }
         ensures same { ⟦<MemMachine as Shows>⟧.same self.old self.new }
-        ensures left { ⟦<MemMachine as Shows>⟧.left self.new ≡ ⟦<MemMachine as Shows>⟧.left self.old }
-        ensures fixed { ⟦<MemMachine as Shows>⟧.fixed self.new ≡ ⟦<MemMachine as Shows>⟧.fixed self.old }
+        ensures frame { Keeps ⟦<MemMachine as Shows>⟧.left ⟦<MemMachine as Shows>⟧.fixed self.old self.new }
         ensures cause { IsCaused result (⟦<MemMachine as Shows>⟧.faults self.old) (⟦<MemMachine as Shows>⟧.faults self.new) }
 
         // What the plan says.
-        ensures counts { CountsCall self.old self.new }
+        ensures counts { CountsCall result self.old self.new }
         ensures planned { IfOk result (λ n. ¬ IsRefused self.old × (n ≡ room_of self.old (length piece.now))) }
         ensures fails { result ≡ Err device.Failed → IsRefused self.old ⊎ ((0 < length piece.now) × (room_of self.old (length piece.now) ≡ 0)) }
     {
-        count_call(&self.plan.fails, &mut self.calls, &mut self.faults)?;
+        check_plan(&self.plan.fails, &mut self.calls, &mut self.faults)?;
         let mut room = piece.len();
         if let Some(total) = self.plan.show_total {
             room = room.min(total.saturating_sub(self.shown.len() as u64) as usize);
         }
-        if room == 0 && piece.len() > 0 {
-            self.faults = self.faults.saturating_add(1);
-            return Err(DeviceFault::Failed);
+        if room == 0 && !piece.is_empty() {
+            return Err(count_failure(&mut self.calls, &mut self.faults));
         }
         self.shown.extend(&piece[..room])?;
+        self.calls = self.calls.saturating_add(1);
         Ok(room as u64)
     }
 
@@ -169,17 +181,17 @@ impl Shows for MemMachine {
         ensures warned { IfOk result (λ n. ⟦<MemMachine as Shows>⟧.told self.new ≡ with_warned (take n piece.now) (⟦<MemMachine as Shows>⟧.told self.old)) }
         ensures refused { OnErr result (⟦<MemMachine as Shows>⟧.told self.new ≡ ⟦<MemMachine as Shows>⟧.told self.old) }
         ensures same { ⟦<MemMachine as Shows>⟧.same self.old self.new }
-        ensures left { ⟦<MemMachine as Shows>⟧.left self.new ≡ ⟦<MemMachine as Shows>⟧.left self.old }
-        ensures fixed { ⟦<MemMachine as Shows>⟧.fixed self.new ≡ ⟦<MemMachine as Shows>⟧.fixed self.old }
+        ensures frame { Keeps ⟦<MemMachine as Shows>⟧.left ⟦<MemMachine as Shows>⟧.fixed self.old self.new }
         ensures cause { IsCaused result (⟦<MemMachine as Shows>⟧.faults self.old) (⟦<MemMachine as Shows>⟧.faults self.new) }
 
         // What the plan says.
-        ensures counts { CountsCall self.old self.new }
+        ensures counts { CountsCall result self.old self.new }
         ensures planned { IfOk result (λ n. ¬ IsRefused self.old × (n ≡ length piece.now)) }
         ensures fails { result ≡ Err device.Failed → IsRefused self.old }
     {
-        count_call(&self.plan.fails, &mut self.calls, &mut self.faults)?;
+        check_plan(&self.plan.fails, &mut self.calls, &mut self.faults)?;
         self.warned.extend(piece)?;
+        self.calls = self.calls.saturating_add(1);
         Ok(piece.len() as u64)
     }
 }
@@ -195,20 +207,20 @@ impl Machine for MemMachine {
         ensures end { IfOk result (λ n. IfSome (⟦<MemMachine as Shows>⟧.left self.old) (λ script. (n ≡ 0) ↔ (script ≡ []))) }
         ensures left { IfOk result (λ n. ⟦<MemMachine as Shows>⟧.left self.new ≡ option_map (drop n) (⟦<MemMachine as Shows>⟧.left self.old)) }
         ensures refused { OnErr result (⟦<MemMachine as Shows>⟧.left self.new ≡ ⟦<MemMachine as Shows>⟧.left self.old) }
-        ensures told { ⟦<MemMachine as Shows>⟧.told self.new ≡ ⟦<MemMachine as Shows>⟧.told self.old }
-        ensures fixed { ⟦<MemMachine as Shows>⟧.fixed self.new ≡ ⟦<MemMachine as Shows>⟧.fixed self.old }
+        ensures frame { Keeps ⟦<MemMachine as Shows>⟧.told ⟦<MemMachine as Shows>⟧.fixed self.old self.new }
         ensures cause { IsCaused result (⟦<MemMachine as Shows>⟧.faults self.old) (⟦<MemMachine as Shows>⟧.faults self.new) }
 
         // What the plan says.
-        ensures counts { CountsCall self.old self.new }
+        ensures counts { CountsCall result self.old self.new }
         ensures planned { IfOk result (λ n. ¬ IsRefused self.old × IfSome (⟦<MemMachine as Shows>⟧.left self.old) (λ script. n ≡ min (length out.old) (min (plan_of self.old).read_most (length script)))) }
         ensures fails { result ≡ Err device.Failed → IsRefused self.old }
     {
-        count_call(&self.plan.fails, &mut self.calls, &mut self.faults)?;
+        check_plan(&self.plan.fails, &mut self.calls, &mut self.faults)?;
         let left = &self.script.as_slice()[self.taken..];
         let most = out.len().min(self.plan.read_most as usize).min(left.len());
         out[..most].copy_from_slice(&left[..most]);
         self.taken += most;
+        self.calls = self.calls.saturating_add(1);
         Ok(most as u64)
     }
 }

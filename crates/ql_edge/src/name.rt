@@ -1,5 +1,6 @@
+//! Names of tables, columns and indexes.
 ghost use Rattle.std.specs.Prelude.{◌≡◌, ◌<◌, ◌≤◌, List, length, IfOk};
-ghost use Rattle.ql_edge.specs.declared.name.TheConstants.{NAME_LIMIT};
+ghost use Rattle.ql_edge.specs.Names.{longest_name};
 
 use crate::{Bytes, Items, NoMemory};
 use std::alloc::Global;
@@ -19,20 +20,20 @@ pub type Names = Items<Name>;
 
 impl Model for Name {
     ghost use Rattle.std.specs.Prelude.{List, ℕ, ◌<◌, ◌≤◌, length};
-    ghost use Rattle.ql_edge.specs.declared.name.TheConstants.{NAME_LIMIT};
+    ghost use Rattle.ql_edge.specs.Names.{longest_name};
 
     ghost Value = { List ℕ };
 
     ghost view = { λ name. name.bytes };
 
-    ghost invariant = { λ name. (0 < length name.bytes) × (length name.bytes ≤ NAME_LIMIT) };
+    ghost invariant = { λ name. (0 < length name.bytes) × (length name.bytes ≤ longest_name) };
 }
 
 impl Name {
     /// A copy of the bytes.
     pub fn new(alloc: Global, bytes: &[u8]) -> Result<Name, NoMemory>
         requires some { 0 < length bytes.now }
-        requires within { length bytes.now ≤ NAME_LIMIT }
+        requires within { length bytes.now ≤ longest_name }
         ensures { IfOk result (λ name. name ≡ bytes.now) }
     {
         Ok(Name {
@@ -43,7 +44,7 @@ impl Name {
     pub fn as_slice(&self) -> &[u8]
         ensures value { result.now ≡ self.now }
         ensures some { 0 < length self.now }
-        ensures within { length self.now ≤ NAME_LIMIT }
+        ensures within { length self.now ≤ longest_name }
     {
         self.bytes.as_slice()
     }

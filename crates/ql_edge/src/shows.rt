@@ -1,5 +1,7 @@
+//! What a program shows and warns.
 ghost use Rattle.std.specs.Prelude.{◌≡◌, ℕ, ◌<◌, ◌≤◌, List, length, take, drop, Option, option_map, IfOk, OnOk, OnErr, IfSome, ◌↔◌, []};
 ghost use Rattle.ql_edge.specs.Cause.{IsCaused};
+ghost use Rattle.ql_edge.specs.Frame.{Keeps};
 ghost use Rattle.ql_edge.specs.Told.{Told, with_shown, with_warned};
 
 use crate::DeviceFault;
@@ -30,8 +32,7 @@ pub trait Shows {
         ensures shown { IfOk result (λ n. told self.new ≡ with_shown (take n piece.now) (told self.old)) }
         ensures refused { OnErr result (told self.new ≡ told self.old) }
         ensures same { same self.old self.new }
-        ensures left { left self.new ≡ left self.old }
-        ensures fixed { fixed self.new ≡ fixed self.old }
+        ensures frame { Keeps left fixed self.old self.new }
         ensures cause { IsCaused result (faults self.old) (faults self.new) };
 
     /// Warns a front of the piece, and answers its length: at least 1 where the piece is not empty.
@@ -41,8 +42,7 @@ pub trait Shows {
         ensures warned { IfOk result (λ n. told self.new ≡ with_warned (take n piece.now) (told self.old)) }
         ensures refused { OnErr result (told self.new ≡ told self.old) }
         ensures same { same self.old self.new }
-        ensures left { left self.new ≡ left self.old }
-        ensures fixed { fixed self.new ≡ fixed self.old }
+        ensures frame { Keeps left fixed self.old self.new }
         ensures cause { IsCaused result (faults self.old) (faults self.new) };
 
     ghost same_reflexive: { (x : Self) → same x x };
@@ -56,8 +56,7 @@ pub fn show_all<S: Shows>(to: &mut S, text: &[u8]) -> Result<(), DeviceFault>
     ensures shown { OnOk result (S.told to.new ≡ with_shown text.now (S.told to.old)) }
     ensures refused { OnErr result ((n : ℕ) × (n < length text.now) × (S.told to.new ≡ with_shown (take n text.now) (S.told to.old))) }
     ensures same { S.same to.old to.new }
-    ensures left { S.left to.new ≡ S.left to.old }
-    ensures fixed { S.fixed to.new ≡ S.fixed to.old }
+    ensures frame { Keeps S.left S.fixed to.old to.new }
     ensures cause { IsCaused result (S.faults to.old) (S.faults to.new) }
 {
     let mut at = 0;
@@ -74,8 +73,7 @@ pub fn warn_all<S: Shows>(to: &mut S, text: &[u8]) -> Result<(), DeviceFault>
     ensures warned { OnOk result (S.told to.new ≡ with_warned text.now (S.told to.old)) }
     ensures refused { OnErr result ((n : ℕ) × (n < length text.now) × (S.told to.new ≡ with_warned (take n text.now) (S.told to.old))) }
     ensures same { S.same to.old to.new }
-    ensures left { S.left to.new ≡ S.left to.old }
-    ensures fixed { S.fixed to.new ≡ S.fixed to.old }
+    ensures frame { Keeps S.left S.fixed to.old to.new }
     ensures cause { IsCaused result (S.faults to.old) (S.faults to.new) }
 {
     let mut at = 0;

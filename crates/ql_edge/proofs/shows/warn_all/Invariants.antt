@@ -1,4 +1,5 @@
 use Rattle.std.proofs.Common.{◌≡◌, ◌-◌, ◌≤◌, length, take}
+use Rattle.ql_edge.specs.Frame.{Keeps}
 use Rattle.ql_edge.specs.Told.{with_warned}
 use Rattle.ql_edge.proofs.shows.warn_all.Given as goal
 
@@ -7,8 +8,7 @@ invariant-loop-at g l = record {
   within : l.at ≤ length l.text;
   told : g.S.Shows.told l.to ≡ with_warned (take l.at l.text) (g.S.Shows.told l.fn.to);
   same : g.S.Shows.same l.fn.to l.to;
-  left : g.S.Shows.left l.to ≡ g.S.Shows.left l.fn.to;
-  fixed : g.S.Shows.fixed l.to ≡ g.S.Shows.fixed l.fn.to;
+  frame : Keeps g.S.Shows.left g.S.Shows.fixed l.fn.to l.to;
   faults : g.S.Shows.faults l.to ≡ g.S.Shows.faults l.fn.to;
 }
 
