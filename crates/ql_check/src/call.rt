@@ -9,7 +9,7 @@ use crate::CheckFault;
 use crate::checked::{Checked, CheckedList, kind_or_int64, known, literal_in, ruled};
 use crate::fault::refused;
 use crate::parts::{first_kind, meet_all, meet_each, trees};
-use crate::table::{Group, Typing, among, given_type, is_integer, meet, truth_of};
+use crate::table::{Group, Typing, among, given_type, meet, truth_of};
 use ql_edge::Boxed;
 use ql_syntax::{Function, Typed};
 use ql_value::{AGGREGATE, COUNT, Kind};
@@ -30,7 +30,7 @@ fn convert_by_table(alloc: Global, kind: Kind, part: Checked) -> Result<Checked,
 pub(crate) fn convert_to(alloc: Global, kind: Kind, part: Checked) -> Result<Checked, CheckFault>
     ensures { Gives plain (spec.convert_to kind (plain part)) result }
 {
-    if !is_integer(kind) {
+    if !kind.is_integer() {
         return convert_by_table(alloc, kind, part);
     }
     match part.literal {

@@ -6,7 +6,7 @@ ghost use Rattle.ql_check.specs.Plain.{plain, plain_literal, typing_of};
 
 use crate::CheckFault;
 use crate::fault::refused;
-use crate::table::{Typing, is_integer, same_kind};
+use crate::table::{Typing, same_kind};
 use ql_edge::{Boxed, Items};
 use ql_syntax::Typed;
 use ql_value::{CONSTANT_RANGE, Kind, TYPE, Value, convert, fit};
@@ -143,7 +143,7 @@ pub(crate) fn integer_of(typing: Typing) -> Option<Kind>
     ensures { MatchOption result (spec.is_number_type (typing_of typing) ≡ false) (λ kind. (spec.is_number_type (typing_of typing) ≡ true) × (spec.kind_or_int64 (typing_of typing) ≡ kind) × IsInteger kind) }
 {
     match typing {
-        Typing::OfKind(kind) => { if is_integer(kind) { Some(kind) } else { None } }
+        Typing::OfKind(kind) => { if kind.is_integer() { Some(kind) } else { None } }
         _ => None,
     }
 }

@@ -19,17 +19,17 @@ use crate::predicate::{between, in_list, null_test};
 use crate::prefix::prefixed;
 use crate::scope::{Scope, column_of, id_of_all, id_of_set};
 use crate::table::Typing;
-use ql_edge::{Bytes, Name};
+use ql_edge::{Boxed, Bytes, Name};
 use ql_syntax::{Expr, Exprs, Function, Link, Links, Typed};
 use ql_value::{COUNT, Kind, LATER, TYPE, UnOp, Value};
 use std::alloc::Global;
 
 /// The bytes of a name, if there is one.
-fn name_bytes(name: &Option<Name>) -> Option<&[u8]>
+fn name_bytes(name: &Option<Boxed<Name>>) -> Option<&[u8]>
     ensures { bytes_of result ≡ name.now }
 {
     match name {
-        Some(name) => Some(name.as_slice()),
+        Some(name) => Some(name.get().as_slice()),
         None => None,
     }
 }
@@ -54,7 +54,7 @@ fn bare_name(expr: &Expr) -> Option<&[u8]>
     match expr {
         Expr::Column { table, column } => match table {
             Some(_) => None,
-            None => Some(column.as_slice()),
+            None => Some(column.get().as_slice()),
         },
         Expr::Chain { .. }
         | Expr::Unary { .. }
@@ -95,7 +95,7 @@ pub(crate) fn check_expr(
     match expr {
         Expr::Chain { .. } => check_chain(alloc, expr, scope, aggregates),
         Expr::Unary { ops, part } => {
-            check_unary(alloc, part.get(), scope, aggregates, ops.as_slice())
+            check_unary(alloc, part.get(), scope, aggregates, ops.get().as_slice())
         }
         Expr::Number(size) => literal_of(
             alloc,
@@ -111,7 +111,7 @@ pub(crate) fn check_expr(
         )),
         Expr::Null => Ok(known(Typing::OnlyNull, Typed::Constant(Value::Null))),
         Expr::Column { table, column } => {
-            column_of(alloc, scope, name_bytes(table), column.as_slice())
+            column_of(alloc, scope, name_bytes(table), column.get().as_slice())
         }
         Expr::Paren(part) => check_paren(alloc, part.get(), scope, aggregates),
         Expr::Call {
@@ -125,7 +125,7 @@ pub(crate) fn check_expr(
         Expr::IsIn { .. } => check_in(alloc, expr, scope, aggregates),
         Expr::IsInSelect { part, .. } => check_in_select(alloc, part.get(), scope, aggregates),
         Expr::IsBetween { .. } => check_between(alloc, expr, scope, aggregates),
-        Expr::IsNull { part, not } => {
+        Expr::IsNull { not, part } => {
             check_null_test(alloc, part.get(), scope, aggregates, *not)
         }
     }
@@ -146,7 +146,7 @@ fn check_chain(
     match expr {
         Expr::Chain { first, rest } => {
             let first = check_expr(alloc, first.get(), scope, aggregates)?;
-            chained(alloc, rest, scope, aggregates, first)
+            chained(alloc, rest.get(), scope, aggregates, first)
         }
         _ => unreachable!(),
     }
@@ -165,9 +165,9 @@ fn check_in(
     ensures { Gives plain ((spec.judge (plain_scope scope.now) expr.now).answer aggregates) result }
 {
     match expr {
-        Expr::IsIn { part, not, list } => {
+        Expr::IsIn { not, part, list } => {
             let part = check_expr(alloc, part.get(), scope, aggregates)?;
-            let list = check_exprs(alloc, list, scope, aggregates)?;
+            let list = check_exprs(alloc, list.get(), scope, aggregates)?;
             in_list(alloc, *not, part, list)
         }
         _ => unreachable!(),
@@ -188,8 +188,8 @@ fn check_between(
 {
     match expr {
         Expr::IsBetween {
-            part,
             not,
+            part,
             low,
             high,
         } => {

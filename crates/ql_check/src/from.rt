@@ -8,7 +8,7 @@ use crate::CheckFault;
 use crate::fault::refused;
 use crate::scope::{Slot, Slots, is_called, refused_at};
 use crate::table::Typing;
-use ql_edge::{Bytes, Name, NoMemory};
+use ql_edge::{Boxed, Bytes, Name, NoMemory};
 use ql_syntax::{ColumnDef, ColumnDefs, FromSet, FromSets, SetSource};
 use ql_rel::{Schema, TableSchema, TableSchemas};
 use ql_value::{AMBIGUOUS, Kind, LATER, NO_TABLE};
@@ -106,11 +106,11 @@ fn add_table(
 }
 
 /// What a record set is called.
-fn set_name<'a>(alias: &'a Option<Name>, table: &'a Name) -> &'a [u8]
+fn set_name<'a>(alias: &'a Option<Boxed<Name>>, table: &'a Name) -> &'a [u8]
     ensures { result.now ≡ spec.set_name alias.now table.now }
 {
     match alias {
-        Some(alias) => alias.as_slice(),
+        Some(alias) => alias.get().as_slice(),
         None => table.as_slice(),
     }
 }
@@ -120,7 +120,7 @@ fn add_named(
     alloc: Global,
     schema: &Schema,
     slots: Slots,
-    alias: &Option<Name>,
+    alias: &Option<Boxed<Name>>,
     name: &Name,
 ) -> Result<Slots, CheckFault>
     ensures { Gives (map plain_slot) (spec.add_named schema.now (map plain_slot slots) alias.now name.now) result }
@@ -137,7 +137,7 @@ fn add_set(alloc: Global, schema: &Schema, slots: Slots, set: &FromSet) -> Resul
     ensures { Gives (map plain_slot) (spec.add_set schema.now (map plain_slot slots) set.now) result }
 {
     match &set.source {
-        SetSource::Table(name) => add_named(alloc, schema, slots, &set.alias, name),
+        SetSource::Table(name) => add_named(alloc, schema, slots, &set.alias, name.get()),
         SetSource::Query(_) => Err(refused(alloc, LATER)),
     }
 }

@@ -13,7 +13,7 @@ use crate::from::add_sets;
 use crate::scope::{Scope, Slots};
 use crate::shown::{Shown, ShownList, any_aggregate, field_slots, fields_of};
 use crate::table::{Group, among};
-use ql_edge::{Names0, NoMemory, Numbers};
+use ql_edge::{Boxed, Names0, NoMemory, Numbers};
 use ql_syntax::{Expr, Exprs, Join, OptTypeds, Select, Typed, TypedRows, Typeds};
 use ql_rel::{Plan, Schema};
 use ql_value::LATER;
@@ -99,12 +99,12 @@ fn tested_if(
     alloc: Global,
     group: Group,
     scope: &Scope,
-    expr: &Option<Expr>,
+    expr: &Option<Boxed<Expr>>,
 ) -> Result<Option<Typed>, CheckFault>
     ensures { Gives same (spec.tested_if (test_of group) (plain_scope scope.now) expr.now) result }
 {
     match expr {
-        Some(expr) => Ok(Some(tested(alloc, group, scope, expr)?)),
+        Some(expr) => Ok(Some(tested(alloc, group, scope, expr.get())?)),
         None => Ok(None),
     }
 }
@@ -129,7 +129,7 @@ fn resolved(alloc: Global, scope: &Scope, exprs: &Exprs) -> Result<Typeds, Check
 }
 
 /// A join is not built yet.
-fn without_join(alloc: Global, join: &Option<Join>) -> Result<(), CheckFault>
+fn without_join(alloc: Global, join: &Option<Boxed<Join>>) -> Result<(), CheckFault>
     ensures { Gives same (spec.without_join join.now) result }
 {
     match join {

@@ -13,7 +13,7 @@ use crate::fault::refused;
 use crate::from::copy_bytes;
 use crate::scope::{Scope, Slot, Slots, qualified};
 use crate::table::Typing;
-use ql_edge::{Bytes, Items, Name, NoMemory};
+use ql_edge::{Boxed, Bytes, Items, Name, NoMemory};
 use ql_syntax::{Expr, Field, Fields, Typed};
 use ql_value::COUNT;
 use std::alloc::Global;
@@ -34,7 +34,7 @@ fn column_name(expr: &Expr) -> Option<&Name>
     ensures { spec.field_name None (plain_name expr.now) ≡ name_or_none result }
 {
     match expr {
-        Expr::Column { column, .. } => Some(column),
+        Expr::Column { column, .. } => Some(column.get()),
         Expr::Chain { .. }
         | Expr::Unary { .. }
         | Expr::Number(_)
@@ -52,11 +52,11 @@ fn column_name(expr: &Expr) -> Option<&Name>
 }
 
 /// The name of a field.
-fn field_name(alloc: Global, alias: &Option<Name>, expr: &Expr) -> Result<Bytes, NoMemory>
+fn field_name(alloc: Global, alias: &Option<Boxed<Name>>, expr: &Expr) -> Result<Bytes, NoMemory>
     ensures { IfOk result (λ name. name ≡ spec.field_name alias.now (plain_name expr.now)) }
 {
     match alias {
-        Some(alias) => copy_bytes(alloc, alias.as_slice()),
+        Some(alias) => copy_bytes(alloc, alias.get().as_slice()),
         None => match column_name(expr) {
             Some(name) => copy_bytes(alloc, name.as_slice()),
             None => Ok(Bytes::new(alloc)),

@@ -25,7 +25,7 @@ fn statement_plan(alloc: Global, statement: &Statement, schema: &Schema) -> Resu
     ensures { Gives same (plan schema.now statement.now) result }
 {
     match statement {
-        Statement::Query(select) => select_plan(alloc, schema, select),
+        Statement::Query(select) => select_plan(alloc, schema, select.get()),
         _ => Err(refused(alloc, LATER)),
     }
 }

@@ -32,42 +32,6 @@ pub(crate) enum Group {
     Into(Kind),
 }
 
-pub(crate) fn is_integer(kind: Kind) -> bool
-    ensures { result ≡ kinds.is_integer kind }
-{
-    match kind {
-        Kind::Bool | Kind::Text | Kind::Blob => false,
-        _ => true,
-    }
-}
-
-fn is_truth(kind: Kind) -> bool
-    ensures { result ≡ kinds.is_truth kind }
-{
-    match kind {
-        Kind::Bool => true,
-        _ => false,
-    }
-}
-
-fn is_text(kind: Kind) -> bool
-    ensures { result ≡ kinds.is_text kind }
-{
-    match kind {
-        Kind::Text => true,
-        _ => false,
-    }
-}
-
-fn is_byte_list(kind: Kind) -> bool
-    ensures { result ≡ kinds.is_byte_list kind }
-{
-    match kind {
-        Kind::Text | Kind::Blob => true,
-        _ => false,
-    }
-}
-
 /// The place of a kind among the kinds.
 fn kind_number(kind: Kind) -> u8
     ensures { result ≡ kinds.kind_number kind }
@@ -97,9 +61,9 @@ pub(crate) fn same_kind(a: Kind, b: Kind) -> bool
 fn converts(to: Kind, from: Kind) -> bool
     ensures { result ≡ spec.converts to from }
 {
-    is_truth(to) && is_truth(from)
-        || is_integer(to) && is_integer(from)
-        || is_byte_list(to) && is_byte_list(from)
+    to.is_truth() && from.is_truth()
+        || to.is_integer() && from.is_integer()
+        || to.is_byte_list() && from.is_byte_list()
 }
 
 /// Whether the kind is of the group.
@@ -107,12 +71,12 @@ fn holds(group: Group, kind: Kind) -> bool
     ensures { result ≡ test_of group kind }
 {
     match group {
-        Group::Integers => is_integer(kind),
-        Group::Truths => is_truth(kind),
-        Group::Ordered => !is_truth(kind),
-        Group::Sums => is_integer(kind) || is_text(kind),
-        Group::Strings => is_text(kind),
-        Group::ByteLists => is_byte_list(kind),
+        Group::Integers => kind.is_integer(),
+        Group::Truths => kind.is_truth(),
+        Group::Ordered => !kind.is_truth(),
+        Group::Sums => kind.is_integer() || kind.is_text(),
+        Group::Strings => kind.is_text(),
+        Group::ByteLists => kind.is_byte_list(),
         Group::Into(to) => converts(to, kind),
     }
 }

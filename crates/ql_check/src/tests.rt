@@ -14,6 +14,7 @@ fn one_plus(alloc: Global, part: Expr) -> Result<Expr, NoMemory> {
         part,
     })?;
     let first = Boxed::new(alloc, Expr::Number(1))?;
+    let rest = Boxed::new(alloc, rest)?;
     Ok(Expr::Chain { first, rest })
 }
 
@@ -21,7 +22,7 @@ fn one_plus(alloc: Global, part: Expr) -> Result<Expr, NoMemory> {
 fn select(alloc: Global, expr: Expr) -> Result<Statement, NoMemory> {
     let mut fields = Fields::new(alloc);
     fields.push(Field { expr, alias: None })?;
-    Ok(Statement::Query(Select {
+    let select = Select {
         distinct: false,
         fields,
         sets: FromSets::new(alloc),
@@ -32,7 +33,8 @@ fn select(alloc: Global, expr: Expr) -> Result<Statement, NoMemory> {
         descending: false,
         limit: None,
         offset: None,
-    }))
+    };
+    Ok(Statement::Query(Boxed::new(alloc, select)?))
 }
 
 /// A schema without tables.

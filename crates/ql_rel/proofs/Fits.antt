@@ -2,7 +2,7 @@
 use Rattle.std.proofs.Common.{◌≡◌, ℤ, Bool, true, false, ◌&&◌, if◌then◌else◌, List, Option, Some, None, Ok, Err, refl, ap, subst, ◌∙◌}
 use Rattle.std.specs.Prelude.{int_le}
 use Rattle.std.proofs.Math.Dec.{T}
-use Rattle.ql_value.specs.Number.{has_number, wrapped, IsInteger, least, greatest}
+use Rattle.ql_value.specs.Number.{has_number, wrapped, least, greatest}
 use Rattle.ql_value.specs.declared.refusal.TheConstants.{CONSTANT_RANGE}
 use Rattle.ql_value.specs.declared.value.Kind.{Kind}
 use Rattle.ql_value.specs.declared.value.Kind.TheVariants as k
@@ -52,12 +52,6 @@ int64_kind k.Uint64 h = absurd (cc)
 int64_kind k.Text h = absurd (cc)
 int64_kind k.Blob h = absurd (cc)
 
-integer_is : (kind : Kind) → is_integer kind ≡ true → IsInteger kind
-integer_is k.Bool h = absurd (cc)
-integer_is k.Text h = absurd (cc)
-integer_is k.Blob h = absurd (cc)
-integer_is _ h = tt
-
 anded : (a b : Bool) → T a → T b → (a && b) ≡ true
 anded true true p q = refl
 anded true false p q = absurd q
@@ -88,7 +82,7 @@ module _ (may : Bool) (types : List Typing) where
 
   wrapped_number : (kind : Kind) (z : ℤ) → is_integer kind ≡ true → has_number kind (wrapped kind z) ≡ true
   wrapped_number kind z h =
-      let law = the_kind_laws.conversion kind (v.Int kind z) (integer_is kind h) in
+      let law = the_kind_laws.conversion kind (v.Int kind z) h in
       anded (int_le (least kind) (wrapped kind z)) (int_le (wrapped kind z) (greatest kind)) law.2.0.le law.2.1.le
 
   kind_is_integer : (b : Bool) → is_integer (if b then k.Int64 else k.Uint64) ≡ true
