@@ -10,14 +10,14 @@ use Rattle.ql_value.specs.declared.value.Kind.TheVariants as k
 use Rattle.ql_value.specs.declared.value.Value.{Value}
 use Rattle.ql_value.specs.declared.value.Value.TheVariants as v
 use Rattle.ql_value.specs.Number.{HasKind, HasNumber, IsInteger, has_number, least, greatest, residue, wrapped}
-use Rattle.ql_value.specs.Convert.{IsConvertible, IsBool, IsBytes, converted, fitted}
+use Rattle.ql_value.specs.Convert.{IsConvertible, converted, fitted}
 use Rattle.ql_value.proofs.ArithLaws.{wrapped_has}
 use Rattle.ql_value.proofs.KindLaws.{the_kind_laws}
 use Rattle.ql_value.specs.Kinds.{is_integer, is_truth, is_text, is_byte_list}
 use Rattle.ql_syntax.specs.Values.{gives, means_nothing, outcome_of, prefix, prefix_number, prefixed, is_convertible, convert_to, narrow_to, length_of, asked, at_place}
 use Rattle.ql_syntax.specs.Typing.{Typing, only_null, of_kind, ill, IsTyped, HasType, FitsRow, among, meet, prefix_type, prefixed_type, converts, constant_type, place_type}
 use Rattle.ql_eval.proofs.TypeLemmas.{Passes, among_passes, among_typed, meet_both}
-use Rattle.ql_eval.proofs.Sorts.{IsNumber, IsTruth, IsText, IsBytes as IsByteValue, number_value, truth_value, text_value, bytes_value}
+use Rattle.ql_eval.proofs.Sorts.{IsNumber, IsTruth, IsText, IsBytes, number_value, truth_value, text_value, bytes_value}
 use Rattle.ql_eval.proofs.OperatorTypes.{Comes, then_comes, comes_of}
 
 wrapped_kind : (i kind : Kind) (z : ℤ) → i ≡ kind → IsInteger kind → HasKind kind (v.Int i (wrapped i z))
@@ -114,27 +114,6 @@ bytes_alone kind k.Text e f = third_alone (is_truth kind) (is_integer kind) (is_
 bytes_alone kind k.Blob e f = third_alone (is_truth kind) (is_integer kind) (is_byte_list kind) f
 bytes_alone kind _ e f = absurd (cc)
 
-integer_test : (kind : Kind) → IsInteger kind → is_integer kind ≡ true
-integer_test k.Bool h = absurd h
-integer_test k.Text h = absurd h
-integer_test k.Blob h = absurd h
-integer_test _ h = refl
-
-test_integer : (kind : Kind) → is_integer kind ≡ true → IsInteger kind
-test_integer k.Bool e = absurd (cc)
-test_integer k.Text e = absurd (cc)
-test_integer k.Blob e = absurd (cc)
-test_integer _ e = tt
-
-test_bool : (kind : Kind) → is_truth kind ≡ true → IsBool kind
-test_bool k.Bool e = tt
-test_bool _ e = absurd (cc)
-
-test_bytes : (kind : Kind) → is_byte_list kind ≡ true → IsBytes kind
-test_bytes k.Text e = tt
-test_bytes k.Blob e = tt
-test_bytes _ e = absurd (cc)
-
 truth_converts : (kind own : Kind) (b : Bool) → converts kind own ≡ true → HasKind own (v.Bool b) → is_truth kind ≡ true
 truth_converts kind k.Bool b e h = truths_alone kind e
 truth_converts kind _ b e h = absurd h
@@ -154,10 +133,10 @@ record Converts (kind : Kind) (x : Value) : Type 0 where
 
 kind_converts : (kind own : Kind) (x : Value) → converts kind own ≡ true → HasKind own x → Converts kind x
 kind_converts kind own v.Null e h = record { test = refl; fits = tt }
-kind_converts kind own (v.Bool b) e h = let t = truth_converts kind own b e h in record { test = t; fits = test_bool kind t }
-kind_converts kind own (v.Int i z) e h = let t = integers_alone kind own (integer_test own h.1) e in record { test = t; fits = test_integer kind t }
-kind_converts kind own (v.Text bytes) e h = let t = text_converts kind own bytes e h in record { test = t; fits = test_bytes kind t }
-kind_converts kind own (v.Blob bytes) e h = let t = blob_converts kind own bytes e h in record { test = t; fits = test_bytes kind t }
+kind_converts kind own (v.Bool b) e h = let t = truth_converts kind own b e h in record { test = t; fits = t }
+kind_converts kind own (v.Int i z) e h = let t = integers_alone kind own h.1 e in record { test = t; fits = t }
+kind_converts kind own (v.Text bytes) e h = let t = text_converts kind own bytes e h in record { test = t; fits = t }
+kind_converts kind own (v.Blob bytes) e h = let t = blob_converts kind own bytes e h in record { test = t; fits = t }
 
 type_converts : (kind : Kind) (t : Typing) (x : Value) → Passes (converts kind) t → HasType t x → Converts kind x
 type_converts kind only_null x p h = subst (Converts kind) (sym h) (record { test = refl; fits = tt })
@@ -176,7 +155,7 @@ no_lack_fit kind z false = λ e. cc
 narrow_kind : (kind : Kind) (x : Value) → is_integer kind ≡ true → IsNumber x → Comes (of_kind kind) (narrow_to kind x)
 narrow_kind kind v.Null e n = tt
 narrow_kind kind (v.Int i z) e n =
-    let fits : Comes (of_kind kind) (outcome_of (fitted kind z)) = comes_of kind (fitted kind z) (no_lack_fit kind z (has_number kind z)) (the_kind_laws.fit kind z (test_integer kind e)) in
+    let fits : Comes (of_kind kind) (outcome_of (fitted kind z)) = comes_of kind (fitted kind z) (no_lack_fit kind z (has_number kind z)) (the_kind_laws.fit kind z e) in
     subst (λ b. Comes (of_kind kind) (if b then outcome_of (fitted kind z) else means_nothing)) (sym e) fits
 narrow_kind kind (v.Bool _) e n = absurd n
 narrow_kind kind (v.Text _) e n = absurd n
@@ -185,10 +164,10 @@ narrow_kind kind (v.Blob _) e n = absurd n
 pub narrow_comes : (kind : Kind) (t : Typing) (x : Value) → is_integer kind ≡ true → Passes is_integer t → HasType t x → Comes (of_kind kind) (narrow_to kind x)
 narrow_comes kind t x e p h = narrow_kind kind x e (number_value t x p h)
 
-length_kind : (x : Value) → IsByteValue x → Comes (of_kind k.Int64) (length_of x)
+length_kind : (x : Value) → IsBytes x → Comes (of_kind k.Int64) (length_of x)
 length_kind v.Null n = tt
-length_kind (v.Text bytes) n = wrapped_kind k.Int64 k.Int64 (pos (length bytes)) refl tt
-length_kind (v.Blob bytes) n = wrapped_kind k.Int64 k.Int64 (pos (length bytes)) refl tt
+length_kind (v.Text bytes) n = wrapped_kind k.Int64 k.Int64 (pos (length bytes)) refl refl
+length_kind (v.Blob bytes) n = wrapped_kind k.Int64 k.Int64 (pos (length bytes)) refl refl
 length_kind (v.Bool _) n = absurd n
 length_kind (v.Int _ _) n = absurd n
 
@@ -220,7 +199,7 @@ constant_if : (kind : Kind) (z : ℤ) (b : Bool) → (is_integer kind && has_num
 constant_if kind z true e h =
     let p = and_parts (is_integer kind) (has_number kind z) e in
     let q = and_parts (int_le (least kind) z) (int_le z (greatest kind)) p.1 in
-    (refl, test_integer kind p.0, (le_from (least kind) z q.0, le_from z (greatest kind) q.1))
+    (refl, p.0, (le_from (least kind) z q.0, le_from z (greatest kind) q.1))
 constant_if kind z false e h = absurd h
 
 pub constant_comes : (x : Value) → IsTyped (constant_type x) → HasType (constant_type x) x

@@ -1,5 +1,5 @@
 -- Values of groups of kinds.
-use Rattle.std.proofs.Common.{◌≡◌, Bool, true, sym, subst}
+use Rattle.std.proofs.Common.{◌≡◌, Bool, true, false, sym, subst}
 use Rattle.ql_value.specs.declared.value.Kind.{Kind}
 use Rattle.ql_value.specs.declared.value.Kind.TheVariants as k
 use Rattle.ql_value.specs.declared.value.Value.{Value}
@@ -47,7 +47,7 @@ number_kind _ (v.Blob _) e h = absurd h
 truth_kind : (kind : Kind) (x : Value) → is_truth kind ≡ true → HasKind kind x → IsTruth x
 truth_kind k.Bool v.Null e h = tt
 truth_kind k.Bool (v.Bool _) e h = tt
-truth_kind k.Bool (v.Int _ _) e h = absurd h.1
+truth_kind k.Bool (v.Int _ _) e h = let f : false ≡ true = h.1 in absurd (cc)
 truth_kind k.Bool (v.Text _) e h = absurd h
 truth_kind k.Bool (v.Blob _) e h = absurd h
 truth_kind _ x e h = absurd (cc)
@@ -55,7 +55,7 @@ truth_kind _ x e h = absurd (cc)
 text_kind : (kind : Kind) (x : Value) → is_text kind ≡ true → HasKind kind x → IsText x
 text_kind k.Text v.Null e h = tt
 text_kind k.Text (v.Text _) e h = tt
-text_kind k.Text (v.Int _ _) e h = absurd h.1
+text_kind k.Text (v.Int _ _) e h = let f : false ≡ true = h.1 in absurd (cc)
 text_kind k.Text (v.Bool _) e h = absurd h
 text_kind k.Text (v.Blob _) e h = absurd h
 text_kind _ x e h = absurd (cc)
@@ -63,12 +63,12 @@ text_kind _ x e h = absurd (cc)
 bytes_kind : (kind : Kind) (x : Value) → is_byte_list kind ≡ true → HasKind kind x → IsBytes x
 bytes_kind k.Text v.Null e h = tt
 bytes_kind k.Text (v.Text _) e h = tt
-bytes_kind k.Text (v.Int _ _) e h = absurd h.1
+bytes_kind k.Text (v.Int _ _) e h = let f : false ≡ true = h.1 in absurd (cc)
 bytes_kind k.Text (v.Bool _) e h = absurd h
 bytes_kind k.Text (v.Blob _) e h = absurd h
 bytes_kind k.Blob v.Null e h = tt
 bytes_kind k.Blob (v.Blob _) e h = tt
-bytes_kind k.Blob (v.Int _ _) e h = absurd h.1
+bytes_kind k.Blob (v.Int _ _) e h = let f : false ≡ true = h.1 in absurd (cc)
 bytes_kind k.Blob (v.Bool _) e h = absurd h
 bytes_kind k.Blob (v.Text _) e h = absurd h
 bytes_kind _ x e h = absurd (cc)
