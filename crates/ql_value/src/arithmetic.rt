@@ -1,7 +1,8 @@
 ghost use Rattle.std.specs.Prelude.{◌≡◌, ◌≢◌, ◌^◌, ◌<◌, pos, ◌+ℤ◌, ◌-ℤ◌, ◌*ℤ◌, int_div, bit_and, bit_or, bit_xor, ◌++◌, IfOk};
 ghost use Rattle.std.specs.Int.{IsNonZero, w128, int_div_euclid};
 ghost use Rattle.ql_value.specs.Number.{width, residue, wrapped};
-ghost use Rattle.ql_value.specs.Arith.{IsArithmetic, AreOperands, AreTexts, Gives, arith_of, on_numbers, flipped};
+ghost use Rattle.ql_value.specs.Arith.{IsArithmetic, AreOperands, AreTexts, arith_of, stands_for, on_numbers, flipped};
+ghost use Rattle.ql_edge.specs.Answers.{Gives};
 
 use crate::value::copy_bytes;
 use crate::wrapping::{width_of, wrap};
@@ -12,7 +13,7 @@ use std::alloc::Global;
 /// An operator of arithmetic on two values. A NULL on either side gives NULL; memory is taken only to join strings.
 pub fn arith(alloc: Global, op: BinOp, left: &Value, right: &Value) -> Result<Value, ValueFault>
     requires { AreOperands op left.now right.now }
-    ensures value { Gives (arith_of op left.now right.now) result }
+    ensures value { Gives Ok stands_for (arith_of op left.now right.now) result }
     ensures memory { result ≡ Err ValueFault.NoMemory → AreTexts left.now right.now }
 {
     match (left, right) {
