@@ -1,6 +1,6 @@
 -- What the steps of printing add, put together.
-use Rattle.std.proofs.Common.{◌≡◌, ◌≢◌, ℕ, ◌+◌, ◌<◌, Bool, true, false, List, [], ◌∷◌, ◌++◌, length, take, get_or, refl, sym, ap, ◌∙◌, append_assoc, append-nil, arith}
-use Rattle.std.specs.Prelude.{codes, map, option_map, flat_map}
+use Rattle.std.proofs.Common.{◌≡◌, ℕ, ◌+◌, ◌<◌, Bool, true, false, List, [], ◌∷◌, ◌++◌, length, take, get_or, refl, sym, ap, ◌∙◌, append_assoc, append-nil, arith}
+use Rattle.std.specs.Prelude.{◌==◌, codes, map, option_map, flat_map}
 use Rattle.std.proofs.lemmas.Grind.{flat_map-append}
 use Rattle.std.proofs.lemmas.List.{length-map, length-take-le, map-append}
 use Rattle.std.proofs.Math.Numerals.{add-one}
@@ -103,6 +103,6 @@ one_more gap f xs i x d l e =
     ∙ ap (λ y. text_of (between gap (map f (take i xs))) ++ y) (text_append (gap_before gap i) (f x))
 
 -- the text of the names of an INSERT
-pub names_text : (xs : List (List ℕ)) → length xs ≢ 0 → text_of (ink_of_names xs) ≡ codes " (" ++ (text_of (listed (map (λ (x : List ℕ). name x ∷ []) xs)) ++ codes ")")
-names_text [] n = absurd (n refl)
+pub names_text : (xs : List (List ℕ)) → (length xs == 0) ≡ false → text_of (ink_of_names xs) ≡ codes " (" ++ (text_of (listed (map (λ (x : List ℕ). name x ∷ []) xs)) ++ codes ")")
+names_text [] n = cc
 names_text (x ∷ xs) n = ap (λ (t : List ℕ). codes " (" ++ t) (text_append (listed (map (λ (x : List ℕ). name x ∷ []) (x ∷ xs))) (mark m.Close ∷ []))

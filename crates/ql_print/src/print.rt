@@ -9,10 +9,10 @@ use crate::spelled::{
     add_alias, add_ops, add_ref, between_bytes, bin_bytes, comma, direction_bytes, function_name,
     in_bytes, join_bytes, kind_bytes, null_bytes, put, select_bytes, truth_bytes,
 };
+use ql_edge::{Boxed, Bytes, NoMemory};
 use ql_syntax::{
     Expr, Exprs, Field, Fields, FromSet, FromSets, Join, Link, Links, Select, SetSource,
 };
-use ql_edge::{Boxed, Bytes, NoMemory};
 use ql_value::{print_number, print_text};
 
 /// Adds what an expression prints, and memory may run out behind a front of it.
@@ -24,11 +24,11 @@ pub(crate) fn add_expr(expr: &Expr, out: &mut Bytes) -> Result<(), NoMemory>
     match expr {
         Expr::Chain { first, rest } => {
             add_expr(first.get(), out)?;
-            add_links(rest, out)?;
+            add_links(rest.get(), out)?;
             Ok(())
         }
         Expr::Unary { ops, part } => {
-            add_ops(ops.as_slice(), out)?;
+            add_ops(ops.get().as_slice(), out)?;
             add_expr(part.get(), out)?;
             Ok(())
         }
@@ -36,7 +36,7 @@ pub(crate) fn add_expr(expr: &Expr, out: &mut Bytes) -> Result<(), NoMemory>
         Expr::Text(text) => print_text(text.as_slice(), out),
         Expr::Truth(truth) => put(truth_bytes(*truth), out),
         Expr::Null => put(b"NULL", out),
-        Expr::Column { table, column } => add_ref(table, column, out),
+        Expr::Column { table, column } => add_ref(table, column.get(), out),
         Expr::Paren(part) => add_enclosed(part, out),
         Expr::Call {
             function,
@@ -52,21 +52,21 @@ pub(crate) fn add_expr(expr: &Expr, out: &mut Bytes) -> Result<(), NoMemory>
             add_enclosed(part, out)?;
             Ok(())
         }
-        Expr::IsIn { part, not, list } => {
+        Expr::IsIn { not, part, list } => {
             add_expr(part.get(), out)?;
             put(in_bytes(*not), out)?;
-            add_list(list, out)?;
+            add_list(list.get(), out)?;
             Ok(())
         }
-        Expr::IsInSelect { part, not, query } => {
+        Expr::IsInSelect { not, part, query } => {
             add_expr(part.get(), out)?;
             put(in_bytes(*not), out)?;
             add_query(query, out)?;
             Ok(())
         }
         Expr::IsBetween {
-            part,
             not,
+            part,
             low,
             high,
         } => {
@@ -77,7 +77,7 @@ pub(crate) fn add_expr(expr: &Expr, out: &mut Bytes) -> Result<(), NoMemory>
             add_expr(high.get(), out)?;
             Ok(())
         }
-        Expr::IsNull { part, not } => {
+        Expr::IsNull { not, part } => {
             add_expr(part.get(), out)?;
             put(null_bytes(*not), out)?;
             Ok(())
@@ -183,7 +183,7 @@ fn add_fields(fields: &Fields, out: &mut Bytes) -> Result<(), NoMemory>
     ensures ok { OnOk result (out.new ≡ out.old ++ text_of (ink_of_fields (map ink_of_field fields.now))) }
     ensures grows { Grows out.old out.new }
 {
-    if fields.len() == 0 {
+    if fields.is_empty() {
         return put(b"*", out);
     }
     'fields: for (i, field) in fields.as_slice().iter().enumerate() {
@@ -210,7 +210,7 @@ fn add_sets(sets: &FromSets, out: &mut Bytes) -> Result<(), NoMemory>
     ensures ok { OnOk result (out.new ≡ out.old ++ text_of (ink_of_sets (map ink_of_set sets.now))) }
     ensures grows { Grows out.old out.new }
 {
-    if sets.len() == 0 {
+    if sets.is_empty() {
         return Ok(());
     }
     put(b" FROM ", out)?;
@@ -240,7 +240,7 @@ fn add_source(source: &SetSource, out: &mut Bytes) -> Result<(), NoMemory>
 {
     match source {
         SetSource::Table(table) => {
-            put(table.as_slice(), out)?;
+            put(table.get().as_slice(), out)?;
             Ok(())
         }
         SetSource::Query(query) => {
@@ -252,13 +252,23 @@ fn add_source(source: &SetSource, out: &mut Bytes) -> Result<(), NoMemory>
 
 /// Adds a join, where there is one.
 #[cycle(print)]
-fn add_join(join: &Option<Join>, out: &mut Bytes) -> Result<(), NoMemory>
+fn add_join(join: &Option<Boxed<Join>>, out: &mut Bytes) -> Result<(), NoMemory>
     ensures ok { OnOk result (out.new ≡ out.old ++ text_of (ink_of_join (option_map ink_of_one_join join.now))) }
     ensures grows { Grows out.old out.new }
 {
     let Some(join) = join else {
         return Ok(());
     };
+    add_one_join(join.get(), out)?;
+    Ok(())
+}
+
+/// Adds the join of a record set, with the blank before it.
+#[cycle(print)]
+fn add_one_join(join: &Join, out: &mut Bytes) -> Result<(), NoMemory>
+    ensures ok { OnOk result (out.new ≡ out.old ++ text_of (ink_of_one_join join.now)) }
+    ensures grows { Grows out.old out.new }
+{
     put(join_bytes(join.side), out)?;
     add_set(&join.set, out)?;
     put(b" ON ", out)?;
@@ -268,7 +278,7 @@ fn add_join(join: &Option<Join>, out: &mut Bytes) -> Result<(), NoMemory>
 
 /// Adds WHERE and its condition, where there is one.
 #[cycle(print)]
-pub(crate) fn add_filter(filter: &Option<Expr>, out: &mut Bytes) -> Result<(), NoMemory>
+pub(crate) fn add_filter(filter: &Option<Boxed<Expr>>, out: &mut Bytes) -> Result<(), NoMemory>
     ensures ok { OnOk result (out.new ≡ out.old ++ text_of (behind w.Where (option_map ink_of_expr filter.now))) }
     ensures grows { Grows out.old out.new }
 {
@@ -276,7 +286,7 @@ pub(crate) fn add_filter(filter: &Option<Expr>, out: &mut Bytes) -> Result<(), N
         return Ok(());
     };
     put(b" WHERE ", out)?;
-    add_expr(filter, out)?;
+    add_expr(filter.get(), out)?;
     Ok(())
 }
 
@@ -286,7 +296,7 @@ fn add_groups(groups: &Exprs, out: &mut Bytes) -> Result<(), NoMemory>
     ensures ok { OnOk result (out.new ≡ out.old ++ text_of (ink_of_groups (map ink_of_expr groups.now))) }
     ensures grows { Grows out.old out.new }
 {
-    if groups.len() == 0 {
+    if groups.is_empty() {
         return Ok(());
     }
     put(b" GROUP BY ", out)?;
@@ -300,7 +310,7 @@ fn add_keys(keys: &Exprs, descending: bool, out: &mut Bytes) -> Result<(), NoMem
     ensures ok { OnOk result (out.new ≡ out.old ++ text_of (ink_of_keys (map ink_of_expr keys.now) descending)) }
     ensures grows { Grows out.old out.new }
 {
-    if keys.len() == 0 {
+    if keys.is_empty() {
         return Ok(());
     }
     put(b" ORDER BY ", out)?;
@@ -311,7 +321,7 @@ fn add_keys(keys: &Exprs, descending: bool, out: &mut Bytes) -> Result<(), NoMem
 
 /// Adds LIMIT and its expression, where there is one.
 #[cycle(print)]
-fn add_limit(limit: &Option<Expr>, out: &mut Bytes) -> Result<(), NoMemory>
+fn add_limit(limit: &Option<Boxed<Expr>>, out: &mut Bytes) -> Result<(), NoMemory>
     ensures ok { OnOk result (out.new ≡ out.old ++ text_of (behind w.Limit (option_map ink_of_expr limit.now))) }
     ensures grows { Grows out.old out.new }
 {
@@ -319,13 +329,13 @@ fn add_limit(limit: &Option<Expr>, out: &mut Bytes) -> Result<(), NoMemory>
         return Ok(());
     };
     put(b" LIMIT ", out)?;
-    add_expr(limit, out)?;
+    add_expr(limit.get(), out)?;
     Ok(())
 }
 
 /// Adds OFFSET and its expression, where there is one.
 #[cycle(print)]
-fn add_offset(offset: &Option<Expr>, out: &mut Bytes) -> Result<(), NoMemory>
+fn add_offset(offset: &Option<Boxed<Expr>>, out: &mut Bytes) -> Result<(), NoMemory>
     ensures ok { OnOk result (out.new ≡ out.old ++ text_of (behind w.Offset (option_map ink_of_expr offset.now))) }
     ensures grows { Grows out.old out.new }
 {
@@ -333,7 +343,7 @@ fn add_offset(offset: &Option<Expr>, out: &mut Bytes) -> Result<(), NoMemory>
         return Ok(());
     };
     put(b" OFFSET ", out)?;
-    add_expr(offset, out)?;
+    add_expr(offset.get(), out)?;
     Ok(())
 }
 

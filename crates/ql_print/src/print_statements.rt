@@ -10,11 +10,10 @@ ghost use Rattle.ql_syntax.specs.StatementPrinting.{ink_of_assign, ink_of_column
 
 use crate::print::{add_expr, add_exprs, add_select};
 use crate::spelled::{comma, kind_bytes, put};
+use ql_edge::{Boxed, Bytes, Name, Names, NoMemory};
 use ql_syntax::{
-    Assign, Assigns, ColumnDef, ColumnDefs, ExprRows, Item, RowSource, Statement,
+    Assign, Assigns, ColumnDef, ColumnDefs, Expr, ExprRows, Exprs, Item, RowSource, Statement,
 };
-use ql_syntax::{Expr, Exprs};
-use ql_edge::{Bytes, Name, Names, NoMemory};
 
 /// `IF EXISTS`, or nothing.
 fn if_exists_bytes(quiet: bool) -> &'static [u8]
@@ -42,7 +41,7 @@ fn create_index_bytes(unique: bool) -> &'static [u8]
 }
 
 /// Adds a rule behind a column, or NOT NULL, or nothing.
-fn add_rule(not_null: bool, rule: &Option<Expr>, out: &mut Bytes) -> Result<(), NoMemory>
+fn add_rule(not_null: bool, rule: &Option<Boxed<Expr>>, out: &mut Bytes) -> Result<(), NoMemory>
     ensures ok { OnOk result (out.new ≡ out.old ++ text_of (ink_of_rule not_null rule.now)) }
     ensures grows { Grows out.old out.new }
 {
@@ -52,7 +51,7 @@ fn add_rule(not_null: bool, rule: &Option<Expr>, out: &mut Bytes) -> Result<(), 
     match rule {
         Some(rule) => {
             put(b" ", out)?;
-            add_expr(rule, out)?;
+            add_expr(rule.get(), out)?;
             Ok(())
         }
         None => Ok(()),
@@ -60,14 +59,14 @@ fn add_rule(not_null: bool, rule: &Option<Expr>, out: &mut Bytes) -> Result<(), 
 }
 
 /// Adds DEFAULT and its expression, where there is one.
-fn add_default(default: &Option<Expr>, out: &mut Bytes) -> Result<(), NoMemory>
+fn add_default(default: &Option<Boxed<Expr>>, out: &mut Bytes) -> Result<(), NoMemory>
     ensures ok { OnOk result (out.new ≡ out.old ++ text_of (behind w.Default (ink_of_option default.now))) }
     ensures grows { Grows out.old out.new }
 {
     match default {
         Some(default) => {
             put(b" DEFAULT ", out)?;
-            add_expr(default, out)?;
+            add_expr(default.get(), out)?;
             Ok(())
         }
         None => Ok(()),
@@ -75,14 +74,14 @@ fn add_default(default: &Option<Expr>, out: &mut Bytes) -> Result<(), NoMemory>
 }
 
 /// Adds WHERE and its condition, where there is one.
-fn add_where(filter: &Option<Expr>, out: &mut Bytes) -> Result<(), NoMemory>
+fn add_where(filter: &Option<Boxed<Expr>>, out: &mut Bytes) -> Result<(), NoMemory>
     ensures ok { OnOk result (out.new ≡ out.old ++ text_of (behind w.Where (ink_of_option filter.now))) }
     ensures grows { Grows out.old out.new }
 {
     match filter {
         Some(filter) => {
             put(b" WHERE ", out)?;
-            add_expr(filter, out)?;
+            add_expr(filter.get(), out)?;
             Ok(())
         }
         None => Ok(()),
@@ -149,7 +148,7 @@ fn add_names(names: &Names, out: &mut Bytes) -> Result<(), NoMemory>
     ensures ok { OnOk result (out.new ≡ out.old ++ text_of (ink_of_names names.now)) }
     ensures grows { Grows out.old out.new }
 {
-    if names.len() == 0 {
+    if names.is_empty() {
         return Ok(());
     }
     put(b" (", out)?;
@@ -196,7 +195,7 @@ fn add_row_source(source: &RowSource, out: &mut Bytes) -> Result<(), NoMemory>
             Ok(())
         }
         RowSource::Query(query) => {
-            add_select(query, out)?;
+            add_select(query.get(), out)?;
             Ok(())
         }
     }
@@ -307,7 +306,7 @@ fn add_insert(
 fn add_update(
     table: &Name,
     sets: &Assigns,
-    filter: &Option<Expr>,
+    filter: &Option<Boxed<Expr>>,
     out: &mut Bytes,
 ) -> Result<(), NoMemory>
     ensures ok { OnOk result (out.new ≡ out.old ++ text_of (ink_of_statement (Statement.Update table.now sets.now filter.now))) }
@@ -322,7 +321,7 @@ fn add_update(
 }
 
 /// Adds DELETE.
-fn add_delete(table: &Name, filter: &Option<Expr>, out: &mut Bytes) -> Result<(), NoMemory>
+fn add_delete(table: &Name, filter: &Option<Boxed<Expr>>, out: &mut Bytes) -> Result<(), NoMemory>
     ensures ok { OnOk result (out.new ≡ out.old ++ text_of (ink_of_statement (Statement.Delete table.now filter.now))) }
     ensures grows { Grows out.old out.new }
 {
@@ -375,14 +374,14 @@ fn add_statement(statement: &Statement, out: &mut Bytes) -> Result<(), NoMemory>
         Statement::Begin => put(b"BEGIN TRANSACTION", out),
         Statement::Commit => put(b"COMMIT", out),
         Statement::Rollback => put(b"ROLLBACK", out),
-        Statement::Query(query) => add_select(query, out),
+        Statement::Query(query) => add_select(query.get(), out),
         Statement::CreateTable {
             quiet,
             table,
             columns,
         } => add_create_table(*quiet, table, columns, out),
         Statement::DropTable { quiet, table } => add_drop(b"DROP TABLE ", *quiet, table, out),
-        Statement::AddColumn { table, column } => add_add_column(table, column, out),
+        Statement::AddColumn { table, column } => add_add_column(table, column.get(), out),
         Statement::DropColumn { table, column } => add_drop_column(table, column, out),
         Statement::CreateIndex {
             unique,
@@ -390,13 +389,13 @@ fn add_statement(statement: &Statement, out: &mut Bytes) -> Result<(), NoMemory>
             index,
             table,
             item,
-        } => add_create_index(*unique, *quiet, index, table, item, out),
+        } => add_create_index(*unique, *quiet, index, table, item.get(), out),
         Statement::DropIndex { quiet, index } => add_drop(b"DROP INDEX ", *quiet, index, out),
         Statement::Insert {
             table,
             columns,
             source,
-        } => add_insert(table, columns, source, out),
+        } => add_insert(table, columns, source.get(), out),
         Statement::Update {
             table,
             sets,

@@ -4,8 +4,8 @@ ghost use Rattle.ql_syntax.specs.Ink as spec;
 ghost use Rattle.ql_syntax.specs.Ink.{bytes_of, gap_before, keyword, small, space, text_of, Grows};
 ghost use Rattle.ql_syntax.specs.Printing.{function_bytes, ink_of_alias, ink_of_bin, ink_of_column, ink_of_direction, ink_of_distinct, ink_of_not, ink_of_ops, ink_of_un, word_of_kind, word_of_side, ink_of_truth};
 
+use ql_edge::{Boxed, Bytes, Name, NoMemory};
 use ql_syntax::{Function, Side};
-use ql_edge::{Bytes, Name, NoMemory};
 use ql_value::{BinOp, Kind, UnOp};
 
 /// Adds bytes.
@@ -166,14 +166,14 @@ pub(crate) fn comma(index: usize) -> &'static [u8]
 }
 
 /// Adds the name that AS gives.
-pub(crate) fn add_alias(alias: &Option<Name>, out: &mut Bytes) -> Result<(), NoMemory>
+pub(crate) fn add_alias(alias: &Option<Boxed<Name>>, out: &mut Bytes) -> Result<(), NoMemory>
     ensures ok { OnOk result (out.new ≡ out.old ++ text_of (ink_of_alias alias.now)) }
     ensures grows { Grows out.old out.new }
 {
     match alias {
         Some(name) => {
             put(b" AS ", out)?;
-            put(name.as_slice(), out)?;
+            put(name.get().as_slice(), out)?;
             Ok(())
         }
         None => Ok(()),
@@ -181,13 +181,17 @@ pub(crate) fn add_alias(alias: &Option<Name>, out: &mut Bytes) -> Result<(), NoM
 }
 
 /// Adds a column, with its table where that is written.
-pub(crate) fn add_ref(table: &Option<Name>, column: &Name, out: &mut Bytes) -> Result<(), NoMemory>
+pub(crate) fn add_ref(
+    table: &Option<Boxed<Name>>,
+    column: &Name,
+    out: &mut Bytes,
+) -> Result<(), NoMemory>
     ensures ok { OnOk result (out.new ≡ out.old ++ text_of (ink_of_column table.now column.now)) }
     ensures grows { Grows out.old out.new }
 {
     match table {
         Some(table) => {
-            put(table.as_slice(), out)?;
+            put(table.get().as_slice(), out)?;
             put(b".", out)?;
             put(column.as_slice(), out)?;
             Ok(())

@@ -78,9 +78,9 @@ add_expr-returns-in_ok-put-in-IsNull-clause-ok n c =
     )
     (simp append_assoc)
 
-pub add_join-returns-clause-ok : goal.add_join-returns-clause-ok
-add_join-returns-clause-ok n c =
-    rw (c.in_ok-add_expr.ensures.ok, c.in_ok-put-2.ensures.ok, c.in_ok-add_set.ensures.ok, c.in_ok-put.ensures.ok, c.in-Some.is, join_text c.in-Some.join c.join_bytes.result.now c.join_bytes.ensures)
+pub add_one_join-returns-clause-ok : goal.add_one_join-returns-clause-ok
+add_one_join-returns-clause-ok n c =
+    rw (c.in_ok-add_expr.ensures.ok, c.in_ok-put-2.ensures.ok, c.in_ok-add_set.ensures.ok, c.in_ok-put.ensures.ok, join_text c.args.join.now c.join_bytes.result.now c.join_bytes.ensures)
     (simp append_assoc)
 
 pub add_sets-sets-preserved : goal.add_sets-sets-preserved

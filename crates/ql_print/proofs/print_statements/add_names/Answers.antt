@@ -1,4 +1,5 @@
-use Rattle.std.proofs.Common.{◌≡◌, ◌≢◌, length, take, arith, [], ◌∷◌, ℕ, List, get_or, ap, ◌∙◌, append_assoc, append-nil, rules}
+use Rattle.std.proofs.Common.{◌≡◌, false, length, take, arith, [], ◌∷◌, ℕ, List, get_or, ap, ◌∙◌, append_assoc, append-nil, rules}
+use Rattle.std.specs.Prelude.{◌==◌}
 use Rattle.std.proofs.lemmas.List.{take_all}
 use Rattle.ql_syntax.specs.Ink.{comma, name}
 use Rattle.ql_print.proofs.PrintSteps.{one_more, names_text}
@@ -13,5 +14,5 @@ pub returns-clause-ok : goal.returns-clause-ok
 returns-clause-ok c =
     let size = ap length c.as_slice-name-items.ensures in
     let all : take c.names.i c.args.names.now ≡ c.args.names.now = take_all _ _ (omega (arith, size, c.names-test.false)) in
-    let some : length c.args.names.now ≢ 0 = λ e. c.if-len-eq0.false (c.len.ensures ∙ e) in
+    let some : (length c.args.names.now == 0) ≡ false = cc in
     rw (c.in_ok-put-4.ensures.ok, c.names.invariant, all, names_text c.args.names.now some) (simp append_assoc)
