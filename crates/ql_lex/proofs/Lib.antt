@@ -10,5 +10,6 @@ pub mod PlaceLemmas
 pub mod RunLemmas
 pub mod StringLemmas
 pub mod TokenLemmas
+pub mod TotalLemmas
 pub mod ValueLemmas
 pub mod WordLemmas

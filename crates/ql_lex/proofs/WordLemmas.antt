@@ -104,7 +104,7 @@ no_word_of None b l rest run words e f g none =
 no_word_of (Some word) b l rest run words e f g is = is
 
 -- the keyword that is written so
-found : List ℕ → Option Word
+pub found : List ℕ → Option Word
 found bytes = if bytes_eq bytes (word_bytes w.Add) then Some w.Add
     else (if bytes_eq bytes (word_bytes w.Alter) then Some w.Alter
     else (if bytes_eq bytes (word_bytes w.And) then Some w.And
@@ -182,7 +182,7 @@ found bytes = if bytes_eq bytes (word_bytes w.Add) then Some w.Add
     else (if bytes_eq bytes (word_bytes w.Where) then Some w.Where
     else (None)))))))))))))))))))))))))))))))))))))))))))))))))))))))))))))))))))))))))))
 
-found-bytes : (word : Word) → found (word_bytes word) ≡ Some word
+pub found-bytes : (word : Word) → found (word_bytes word) ≡ Some word
 unfolding found
 found-bytes w.Add = refl
 found-bytes w.Alter = refl

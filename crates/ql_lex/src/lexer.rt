@@ -1,4 +1,4 @@
-ghost use Rattle.std.specs.Prelude.{◌≡◌, ◌≢◌, ◌⊎◌, List, Ok, Err, All, IfOk, IfErr};
+ghost use Rattle.std.specs.Prelude.{◌≡◌, ◌≢◌, ◌⊎◌, ℕ, List, Ok, Err, All, IfOk, IfErr};
 ghost use Rattle.ql_lex.specs.Pieces.{LongestCounts};
 ghost use Rattle.ql_lex.specs.Tokens.{Outcome, Reads, IsIn};
 ghost use Rattle.ql_lex.specs.declared.token.LexFault.TheVariants as fault;
@@ -19,8 +19,9 @@ pub fn tokens(alloc: Global, source: &[u8]) -> Result<Tokens, LexFault>
     // What the script comes to is the answer, unless memory runs out.
     ensures only { (o : Outcome) → Reads source.now o → (result ≡ o) ⊎ (result ≡ Err fault.NoMemory) }
 
-    // Two laws of the words above: the longest piece counts, and a script comes to one thing alone.
+    // Three laws of the words above: the longest piece counts, and every script comes to one thing, and to one alone.
     ensures longest { LongestCounts }
+    ensures some { (text : List ℕ) → (o : Outcome) × Reads text o }
     ensures one { (o p : Outcome) → Reads source.now o → Reads source.now p → o ≡ p }
 {
     let total = source.len();

@@ -13,3 +13,4 @@ pub mod Loops
 pub mod StepLemmas
 pub mod CursorLemmas
 pub mod GrammarLaws
+pub mod Outcomes

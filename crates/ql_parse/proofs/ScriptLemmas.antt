@@ -15,10 +15,12 @@ use Rattle.ql_syntax.specs.Readings as r
 use Rattle.ql_syntax.specs.Readings.{Parse, leaf, pair, cell, stop, absent, present, Reads, Stop, Stops, unexpected, too_nested}
 use Rattle.ql_parse.specs.Parses.{Gives, Fails, Adds, fault_of}
 use Rattle.ql_parse.specs.ScriptFaults.{placed}
-use Rattle.ql_parse.specs.ScriptLaws.{ScriptLaws}
+use Rattle.ql_parse.specs.ScriptLaws.{ScriptLaws, Outcome, read, nested}
+use Rattle.ql_parse.specs.ScriptLaws as outcome
 use Rattle.ql_syntax.specs.Scripts.{limit, IsUnexpected, IsTooNested}
 use Rattle.ql_syntax.specs.Statements.{IsRead, later_of, statements_of, with_statement}
-use Rattle.ql_parse.proofs.GrammarLaws.{one_reading, reads_or_stops, one_stop, shorter}
+use Rattle.ql_parse.proofs.Outcomes.{Ends, reads, stops, a_script}
+use Rattle.ql_parse.proofs.GrammarLaws.{begins_as_ruled, one_reading, reads_or_stops, one_stop, shorter}
 
 -- whatever is read from here on completes what stands behind semicolons, and wherever reading stops it stops
 pub record LaterGoing (n : ℕ) (old now : List Lexeme) (before found : List Statement) : Type 0 where
@@ -166,14 +168,25 @@ one_nested ts i j h k = omega (arith, length_of_nested h.here k.here (one_stop h
 one_reason : (ts : List Lexeme) (i j : ℕ) → IsUnexpected ts i → IsTooNested ts j → ⊥
 one_reason ts i j h k = let e = one_stop h.stops k.stops in cc
 
+-- every list of tokens comes to something
+some_outcome : (ts : List Lexeme) → Outcome ts
+some_outcome ts = by (a_script limit ts)
+  where
+  by : Ends limit script ts → Outcome ts
+  by (reads {a = a} h) = read (statements_of a) (record { parse = a; reads = rw (script_ends h) at h; tree = refl })
+  by (stops {s = r.unexpected here} h) = outcome.unexpected (length ts - length here) (record { here = here; stops = h; place = omega (arith, stop_within h) })
+  by (stops {s = r.too_nested here} h) = nested (length ts - length here) (record { here = here; stops = h; place = omega (arith, stop_within h) })
+
 pub script_laws : ScriptLaws
 script_laws = record {
+  some_outcome = some_outcome;
   one_script = one_script;
   one_unexpected = one_unexpected;
   one_nested = one_nested;
   one_reason = one_reason;
   read_or_unexpected = λ ts ss i h k. reads_or_stops h.reads k.stops;
   read_or_nested = λ ts ss i h k. reads_or_stops h.reads k.stops;
+  first_tokens = begins_as_ruled;
 }
 
 -- what else the tokens are is the answer, unless memory runs out

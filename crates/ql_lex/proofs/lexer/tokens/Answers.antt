@@ -4,6 +4,7 @@ use Rattle.ql_lex.specs.Tokens.{Reads}
 use Rattle.ql_lex.proofs.LongestLemmas.{longest_counts}
 use Rattle.ql_lex.proofs.PlaceLemmas.{whole_in}
 use Rattle.ql_lex.proofs.TokenLemmas.{lexes_once, at_start, at_end, at_flaw, over_gap, over_token, piece_shorter}
+use Rattle.ql_lex.proofs.TotalLemmas.{outcome}
 use Rattle.ql_lex.proofs.lexer.tokens.Goals as goal
 
 pub pieces-init : goal.pieces-init
@@ -67,3 +68,12 @@ returns-in_err-push-in-Token-clause-longest c = longest_counts
 
 pub returns-clause-longest : goal.returns-clause-longest
 returns-clause-longest c = longest_counts
+
+pub returns-in-Err-clause-some : goal.returns-in-Err-clause-some
+returns-in-Err-clause-some c = outcome
+
+pub returns-in_err-push-in-Token-clause-some : goal.returns-in_err-push-in-Token-clause-some
+returns-in_err-push-in-Token-clause-some c = outcome
+
+pub returns-clause-some : goal.returns-clause-some
+returns-clause-some c = outcome
