@@ -36,3 +36,6 @@ pub mod SoundLevels
 pub mod SoundQueries
 pub mod SoundForms
 pub mod SoundStatements
+pub mod Alone
+pub mod KeptParts
+pub mod MadeStatements

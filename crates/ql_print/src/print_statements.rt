@@ -1,3 +1,4 @@
+//! Printing of statements, and of the parts of them that are stored by themselves.
 #![tactic(auto, using(crate::proofs::Growth::text_append))]
 
 ghost use Rattle.std.specs.Prelude.{◌≡◌, ◌++◌, ◌∷◌, [], OnOk, OnErr, Option, map, codes};
@@ -6,10 +7,11 @@ ghost use Rattle.ql_syntax.specs.Ink as spec;
 ghost use Rattle.ql_syntax.specs.Ink.{bracketed, keyword, listed, small, space, text_of, Grows};
 ghost use Rattle.ql_syntax.specs.Printing.{behind, word_of_kind};
 ghost use Rattle.ql_syntax.specs.ReadsBack.{ReadBackLaws};
+ghost use Rattle.ql_syntax.specs.StoredParts.{ColumnsReadBack, ItemsReadBack, MadeReadBack, PartsReadBack};
 ghost use Rattle.ql_syntax.specs.StatementPrinting.{ink_of_assign, ink_of_column, ink_of_if_exists, ink_of_if_not_exists, ink_of_item, ink_of_names, ink_of_option, ink_of_row, ink_of_rows, ink_of_rule, ink_of_statement, ink_of_unique};
 
-use crate::print::{add_expr, add_exprs, add_select};
-use crate::spelled::{comma, kind_bytes, put};
+use crate::print::{add_expr, add_exprs, add_filter, add_select};
+use crate::spelling::{comma, kind_bytes, put};
 use ql_edge::{Boxed, Bytes, Name, Names, NoMemory};
 use ql_syntax::{
     Assign, Assigns, ColumnDef, ColumnDefs, Expr, ExprRows, Exprs, Item, RowSource, Statement,
@@ -73,21 +75,6 @@ fn add_default(default: &Option<Boxed<Expr>>, out: &mut Bytes) -> Result<(), NoM
     }
 }
 
-/// Adds WHERE and its condition, where there is one.
-fn add_where(filter: &Option<Boxed<Expr>>, out: &mut Bytes) -> Result<(), NoMemory>
-    ensures ok { OnOk result (out.new ≡ out.old ++ text_of (behind w.Where (ink_of_option filter.now))) }
-    ensures grows { Grows out.old out.new }
-{
-    match filter {
-        Some(filter) => {
-            put(b" WHERE ", out)?;
-            add_expr(filter.get(), out)?;
-            Ok(())
-        }
-        None => Ok(()),
-    }
-}
-
 /// Adds a name, a blank and a kind.
 fn add_named_kind(column: &ColumnDef, out: &mut Bytes) -> Result<(), NoMemory>
     ensures ok { OnOk result (out.new ≡ out.old ++ text_of (spec.name column.now.name ∷ space ∷ small (word_of_kind column.now.kind) ∷ [])) }
@@ -124,23 +111,26 @@ fn add_columns(columns: &ColumnDefs, out: &mut Bytes) -> Result<(), NoMemory>
     Ok(())
 }
 
-/// Adds what an index orders by, in brackets.
+/// Adds what an index orders by, and memory may run out behind a front of it.
 fn add_item(item: &Item, out: &mut Bytes) -> Result<(), NoMemory>
-    ensures ok { OnOk result (out.new ≡ out.old ++ text_of (bracketed (ink_of_item item.now))) }
+    ensures ok { OnOk result (out.new ≡ out.old ++ text_of (ink_of_item item.now)) }
     ensures grows { Grows out.old out.new }
 {
     match item {
-        Item::Column(column) => {
-            put(b"(", out)?;
-            put(column.as_slice(), out)?;
-            put(b")", out)?;
-            Ok(())
-        }
-        Item::Id => {
-            put(b"(id())", out)?;
-            Ok(())
-        }
+        Item::Column(column) => put(column.as_slice(), out),
+        Item::Id => put(b"id()", out),
     }
+}
+
+/// Adds what an index orders by, in brackets.
+fn add_enclosed_item(item: &Item, out: &mut Bytes) -> Result<(), NoMemory>
+    ensures ok { OnOk result (out.new ≡ out.old ++ text_of (bracketed (ink_of_item item.now))) }
+    ensures grows { Grows out.old out.new }
+{
+    put(b"(", out)?;
+    add_item(item, out)?;
+    put(b")", out)?;
+    Ok(())
 }
 
 /// Adds the names of an INSERT in brackets, or nothing.
@@ -269,7 +259,7 @@ fn add_create_index(
     put(create_index_bytes(unique), out)?;
     put(if_not_exists_bytes(quiet), out)?;
     add_index_names(index, table, out)?;
-    add_item(item, out)?;
+    add_enclosed_item(item, out)?;
     Ok(())
 }
 
@@ -316,7 +306,7 @@ fn add_update(
     put(table.as_slice(), out)?;
     put(b" SET ", out)?;
     add_assigns(sets, out)?;
-    add_where(filter, out)?;
+    add_filter(filter, out)?;
     Ok(())
 }
 
@@ -327,7 +317,7 @@ fn add_delete(table: &Name, filter: &Option<Boxed<Expr>>, out: &mut Bytes) -> Re
 {
     put(b"DELETE FROM ", out)?;
     put(table.as_slice(), out)?;
-    add_where(filter, out)?;
+    add_filter(filter, out)?;
     Ok(())
 }
 
@@ -406,13 +396,58 @@ fn add_statement(statement: &Statement, out: &mut Bytes) -> Result<(), NoMemory>
     }
 }
 
+/// Adds a column of a table at the end of `out`. A refusal leaves `out` as before.
+pub fn print_column(column: &ColumnDef, out: &mut Bytes) -> Result<(), NoMemory>
+    ensures ok { OnOk result (out.new ≡ out.old ++ text_of (ink_of_column column.now)) }
+    ensures err { OnErr result (out.new ≡ out.old) }
+
+    // A column that was read, once printed, is read as that very column, but that `count(*)` is
+    // read as `count()`. So are its rule and its default, each printed by itself.
+    ensures read_back { ColumnsReadBack }
+{
+    let before = out.len();
+    match add_column(column, out) {
+        Ok(()) => Ok(()),
+        Err(fault) => {
+            out.truncate(before);
+            Err(fault)
+        }
+    }
+}
+
+/// Adds what an index orders by at the end of `out`, without brackets around it. A refusal leaves
+/// `out` as before.
+pub fn print_item(item: &Item, out: &mut Bytes) -> Result<(), NoMemory>
+    ensures ok { OnOk result (out.new ≡ out.old ++ text_of (ink_of_item item.now)) }
+    ensures err { OnErr result (out.new ≡ out.old) }
+
+    // What an index orders by, where it was read, is read as that again.
+    ensures read_back { ItemsReadBack }
+{
+    let before = out.len();
+    match add_item(item, out) {
+        Ok(()) => Ok(()),
+        Err(fault) => {
+            out.truncate(before);
+            Err(fault)
+        }
+    }
+}
+
 /// Adds a statement at the end of `out`, without a semicolon. A refusal leaves `out` as before.
 pub fn print_statement(statement: &Statement, out: &mut Bytes) -> Result<(), NoMemory>
     ensures ok { OnOk result (out.new ≡ out.old ++ text_of (ink_of_statement statement.now)) }
     ensures err { OnErr result (out.new ≡ out.old) }
 
-    // A statement that was read, once printed, is read as that very statement, but that `count(*)` is read as `count()`.
+    // A statement that was read, once printed, is read as that very statement, but that `count(*)`
+    // is read as `count()`.
     ensures read_back { ReadBackLaws }
+
+    // So is each part of it that is stored by itself, once it is printed by itself.
+    ensures parts { PartsReadBack }
+
+    // So is a statement that is put together from parts that were read.
+    ensures made { MadeReadBack }
 {
     let before = out.len();
     match add_statement(statement, out) {
