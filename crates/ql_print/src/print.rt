@@ -103,7 +103,8 @@ fn add_enclosed(part: &Boxed<Expr>, out: &mut Bytes) -> Result<(), NoMemory>
 /// Adds a list of expressions in brackets.
 #[cycle(print)]
 fn add_list(exprs: &Exprs, out: &mut Bytes) -> Result<(), NoMemory>
-    ensures ok { OnOk result (out.new ≡ out.old ++ text_of (bracketed (listed (map ink_of_expr exprs.now)))) }
+    ensures ok { OnOk result (out.new ≡ out.old
+        ++ text_of (bracketed (listed (map ink_of_expr exprs.now)))) }
     ensures grows { Grows out.old out.new }
 {
     put(b"(", out)?;
@@ -128,7 +129,8 @@ pub(crate) fn add_exprs(exprs: &Exprs, out: &mut Bytes) -> Result<(), NoMemory>
 /// Adds the links of a chain.
 #[cycle(print)]
 fn add_links(links: &Links, out: &mut Bytes) -> Result<(), NoMemory>
-    ensures ok { OnOk result (out.new ≡ out.old ++ text_of (flat_map (λ (link : Inks). link) (map ink_of_link links.now))) }
+    ensures ok { OnOk result (out.new ≡ out.old
+        ++ text_of (flat_map (λ (link : Inks). link) (map ink_of_link links.now))) }
     ensures grows { Grows out.old out.new }
 {
     'links: for link in links.as_slice() {
@@ -183,7 +185,8 @@ pub(crate) fn add_select(select: &Select, out: &mut Bytes) -> Result<(), NoMemor
 /// Adds what a SELECT shows.
 #[cycle(print)]
 fn add_fields(fields: &Fields, out: &mut Bytes) -> Result<(), NoMemory>
-    ensures ok { OnOk result (out.new ≡ out.old ++ text_of (ink_of_fields (map ink_of_field fields.now))) }
+    ensures ok { OnOk result (out.new ≡ out.old
+        ++ text_of (ink_of_fields (map ink_of_field fields.now))) }
     ensures grows { Grows out.old out.new }
 {
     if fields.is_empty() {
@@ -210,7 +213,8 @@ fn add_field(field: &Field, out: &mut Bytes) -> Result<(), NoMemory>
 /// Adds FROM and the record sets, where there are any.
 #[cycle(print)]
 fn add_sets(sets: &FromSets, out: &mut Bytes) -> Result<(), NoMemory>
-    ensures ok { OnOk result (out.new ≡ out.old ++ text_of (ink_of_sets (map ink_of_set sets.now))) }
+    ensures ok { OnOk result (out.new ≡ out.old
+        ++ text_of (ink_of_sets (map ink_of_set sets.now))) }
     ensures grows { Grows out.old out.new }
 {
     if sets.is_empty() {
@@ -256,7 +260,8 @@ fn add_source(source: &SetSource, out: &mut Bytes) -> Result<(), NoMemory>
 /// Adds a join, where there is one.
 #[cycle(print)]
 fn add_join(join: &Option<Boxed<Join>>, out: &mut Bytes) -> Result<(), NoMemory>
-    ensures ok { OnOk result (out.new ≡ out.old ++ text_of (ink_of_join (option_map ink_of_one_join join.now))) }
+    ensures ok { OnOk result (out.new ≡ out.old
+        ++ text_of (ink_of_join (option_map ink_of_one_join join.now))) }
     ensures grows { Grows out.old out.new }
 {
     let Some(join) = join else {
@@ -282,7 +287,8 @@ fn add_one_join(join: &Join, out: &mut Bytes) -> Result<(), NoMemory>
 /// Adds WHERE and its condition, where there is one.
 #[cycle(print)]
 pub(crate) fn add_filter(filter: &Option<Boxed<Expr>>, out: &mut Bytes) -> Result<(), NoMemory>
-    ensures ok { OnOk result (out.new ≡ out.old ++ text_of (behind w.Where (ink_of_option filter.now))) }
+    ensures ok { OnOk result (out.new ≡ out.old
+        ++ text_of (behind w.Where (ink_of_option filter.now))) }
     ensures grows { Grows out.old out.new }
 {
     let Some(filter) = filter else {
@@ -296,7 +302,8 @@ pub(crate) fn add_filter(filter: &Option<Boxed<Expr>>, out: &mut Bytes) -> Resul
 /// Adds GROUP BY and its columns, where there are any.
 #[cycle(print)]
 fn add_groups(groups: &Exprs, out: &mut Bytes) -> Result<(), NoMemory>
-    ensures ok { OnOk result (out.new ≡ out.old ++ text_of (ink_of_groups (map ink_of_expr groups.now))) }
+    ensures ok { OnOk result (out.new ≡ out.old
+        ++ text_of (ink_of_groups (map ink_of_expr groups.now))) }
     ensures grows { Grows out.old out.new }
 {
     if groups.is_empty() {
@@ -310,7 +317,8 @@ fn add_groups(groups: &Exprs, out: &mut Bytes) -> Result<(), NoMemory>
 /// Adds ORDER BY, its expressions and its direction, where there are any.
 #[cycle(print)]
 fn add_keys(keys: &Exprs, descending: bool, out: &mut Bytes) -> Result<(), NoMemory>
-    ensures ok { OnOk result (out.new ≡ out.old ++ text_of (ink_of_keys (map ink_of_expr keys.now) descending)) }
+    ensures ok { OnOk result (out.new ≡ out.old
+        ++ text_of (ink_of_keys (map ink_of_expr keys.now) descending)) }
     ensures grows { Grows out.old out.new }
 {
     if keys.is_empty() {
@@ -325,7 +333,8 @@ fn add_keys(keys: &Exprs, descending: bool, out: &mut Bytes) -> Result<(), NoMem
 /// Adds LIMIT and its expression, where there is one.
 #[cycle(print)]
 fn add_limit(limit: &Option<Boxed<Expr>>, out: &mut Bytes) -> Result<(), NoMemory>
-    ensures ok { OnOk result (out.new ≡ out.old ++ text_of (behind w.Limit (ink_of_option limit.now))) }
+    ensures ok { OnOk result (out.new ≡ out.old
+        ++ text_of (behind w.Limit (ink_of_option limit.now))) }
     ensures grows { Grows out.old out.new }
 {
     let Some(limit) = limit else {
@@ -339,7 +348,8 @@ fn add_limit(limit: &Option<Boxed<Expr>>, out: &mut Bytes) -> Result<(), NoMemor
 /// Adds OFFSET and its expression, where there is one.
 #[cycle(print)]
 fn add_offset(offset: &Option<Boxed<Expr>>, out: &mut Bytes) -> Result<(), NoMemory>
-    ensures ok { OnOk result (out.new ≡ out.old ++ text_of (behind w.Offset (ink_of_option offset.now))) }
+    ensures ok { OnOk result (out.new ≡ out.old
+        ++ text_of (behind w.Offset (ink_of_option offset.now))) }
     ensures grows { Grows out.old out.new }
 {
     let Some(offset) = offset else {

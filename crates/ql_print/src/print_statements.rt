@@ -33,7 +33,8 @@ fn if_not_exists_bytes(quiet: bool) -> &'static [u8]
 
 /// What CREATE INDEX begins with.
 fn create_index_bytes(unique: bool) -> &'static [u8]
-    ensures { result.now ≡ text_of (keyword w.Create ∷ space ∷ ink_of_unique unique ++ (keyword w.Index ∷ space ∷ [])) }
+    ensures { result.now ≡ text_of (keyword w.Create ∷ space
+        ∷ ink_of_unique unique ++ (keyword w.Index ∷ space ∷ [])) }
 {
     if unique {
         b"CREATE UNIQUE INDEX "
@@ -62,7 +63,8 @@ fn add_rule(not_null: bool, rule: &Option<Boxed<Expr>>, out: &mut Bytes) -> Resu
 
 /// Adds DEFAULT and its expression, where there is one.
 fn add_default(default: &Option<Boxed<Expr>>, out: &mut Bytes) -> Result<(), NoMemory>
-    ensures ok { OnOk result (out.new ≡ out.old ++ text_of (behind w.Default (ink_of_option default.now))) }
+    ensures ok { OnOk result (out.new ≡ out.old
+        ++ text_of (behind w.Default (ink_of_option default.now))) }
     ensures grows { Grows out.old out.new }
 {
     match default {
@@ -77,7 +79,9 @@ fn add_default(default: &Option<Boxed<Expr>>, out: &mut Bytes) -> Result<(), NoM
 
 /// Adds a name, a blank and a kind.
 fn add_named_kind(column: &ColumnDef, out: &mut Bytes) -> Result<(), NoMemory>
-    ensures ok { OnOk result (out.new ≡ out.old ++ text_of (spec.name column.now.name ∷ space ∷ small (word_of_kind column.now.kind) ∷ [])) }
+    ensures ok { OnOk result (out.new ≡ out.old
+        ++ text_of (spec.name column.now.name ∷ space ∷ small (word_of_kind column.now.kind)
+        ∷ [])) }
     ensures grows { Grows out.old out.new }
 {
     put(column.name.as_slice(), out)?;
@@ -99,7 +103,8 @@ fn add_column(column: &ColumnDef, out: &mut Bytes) -> Result<(), NoMemory>
 
 /// Adds the columns of a table in brackets.
 fn add_columns(columns: &ColumnDefs, out: &mut Bytes) -> Result<(), NoMemory>
-    ensures ok { OnOk result (out.new ≡ out.old ++ text_of (bracketed (listed (map ink_of_column columns.now)))) }
+    ensures ok { OnOk result (out.new ≡ out.old
+        ++ text_of (bracketed (listed (map ink_of_column columns.now)))) }
     ensures grows { Grows out.old out.new }
 {
     put(b"(", out)?;
@@ -204,7 +209,8 @@ fn add_assign(assign: &Assign, out: &mut Bytes) -> Result<(), NoMemory>
 
 /// Adds the assignments of an UPDATE.
 fn add_assigns(assigns: &Assigns, out: &mut Bytes) -> Result<(), NoMemory>
-    ensures ok { OnOk result (out.new ≡ out.old ++ text_of (listed (map ink_of_assign assigns.now))) }
+    ensures ok { OnOk result (out.new ≡ out.old
+        ++ text_of (listed (map ink_of_assign assigns.now))) }
     ensures grows { Grows out.old out.new }
 {
     'assigns: for (i, assign) in assigns.as_slice().iter().enumerate() {
@@ -221,7 +227,8 @@ fn add_create_table(
     columns: &ColumnDefs,
     out: &mut Bytes,
 ) -> Result<(), NoMemory>
-    ensures ok { OnOk result (out.new ≡ out.old ++ text_of (ink_of_statement (Statement.CreateTable quiet table.now columns.now))) }
+    ensures ok { OnOk result (out.new ≡ out.old
+        ++ text_of (ink_of_statement (Statement.CreateTable quiet table.now columns.now))) }
     ensures grows { Grows out.old out.new }
 {
     put(b"CREATE TABLE ", out)?;
@@ -234,7 +241,9 @@ fn add_create_table(
 
 /// Adds the names of an index and of its table.
 fn add_index_names(index: &Name, table: &Name, out: &mut Bytes) -> Result<(), NoMemory>
-    ensures ok { OnOk result (out.new ≡ out.old ++ text_of (spec.name index.now ∷ space ∷ keyword w.On ∷ space ∷ spec.name table.now ∷ space ∷ [])) }
+    ensures ok { OnOk result (out.new ≡ out.old
+        ++ text_of (spec.name index.now ∷ space ∷ keyword w.On ∷ space ∷ spec.name table.now
+        ∷ space ∷ [])) }
     ensures grows { Grows out.old out.new }
 {
     put(index.as_slice(), out)?;
@@ -253,7 +262,9 @@ fn add_create_index(
     item: &Item,
     out: &mut Bytes,
 ) -> Result<(), NoMemory>
-    ensures ok { OnOk result (out.new ≡ out.old ++ text_of (ink_of_statement (Statement.CreateIndex unique quiet index.now table.now item.now))) }
+    ensures ok { OnOk result (out.new ≡ out.old
+        ++ text_of (ink_of_statement
+        (Statement.CreateIndex unique quiet index.now table.now item.now))) }
     ensures grows { Grows out.old out.new }
 {
     put(create_index_bytes(unique), out)?;
@@ -265,7 +276,8 @@ fn add_create_index(
 
 /// Adds DROP of a table or an index.
 fn add_drop(before: &[u8], quiet: bool, name: &Name, out: &mut Bytes) -> Result<(), NoMemory>
-    ensures ok { OnOk result (out.new ≡ out.old ++ (before.now ++ text_of (ink_of_if_exists quiet ++ (spec.name name.now ∷ [])))) }
+    ensures ok { OnOk result (out.new ≡ out.old
+        ++ (before.now ++ text_of (ink_of_if_exists quiet ++ (spec.name name.now ∷ [])))) }
     ensures grows { Grows out.old out.new }
 {
     put(before, out)?;
@@ -281,7 +293,8 @@ fn add_insert(
     source: &RowSource,
     out: &mut Bytes,
 ) -> Result<(), NoMemory>
-    ensures ok { OnOk result (out.new ≡ out.old ++ text_of (ink_of_statement (Statement.Insert table.now columns.now source.now))) }
+    ensures ok { OnOk result (out.new ≡ out.old
+        ++ text_of (ink_of_statement (Statement.Insert table.now columns.now source.now))) }
     ensures grows { Grows out.old out.new }
 {
     put(b"INSERT INTO ", out)?;
@@ -299,7 +312,8 @@ fn add_update(
     filter: &Option<Boxed<Expr>>,
     out: &mut Bytes,
 ) -> Result<(), NoMemory>
-    ensures ok { OnOk result (out.new ≡ out.old ++ text_of (ink_of_statement (Statement.Update table.now sets.now filter.now))) }
+    ensures ok { OnOk result (out.new ≡ out.old
+        ++ text_of (ink_of_statement (Statement.Update table.now sets.now filter.now))) }
     ensures grows { Grows out.old out.new }
 {
     put(b"UPDATE ", out)?;
@@ -312,7 +326,8 @@ fn add_update(
 
 /// Adds DELETE.
 fn add_delete(table: &Name, filter: &Option<Boxed<Expr>>, out: &mut Bytes) -> Result<(), NoMemory>
-    ensures ok { OnOk result (out.new ≡ out.old ++ text_of (ink_of_statement (Statement.Delete table.now filter.now))) }
+    ensures ok { OnOk result (out.new ≡ out.old
+        ++ text_of (ink_of_statement (Statement.Delete table.now filter.now))) }
     ensures grows { Grows out.old out.new }
 {
     put(b"DELETE FROM ", out)?;
@@ -323,7 +338,8 @@ fn add_delete(table: &Name, filter: &Option<Boxed<Expr>>, out: &mut Bytes) -> Re
 
 /// Adds ALTER TABLE .. ADD.
 fn add_add_column(table: &Name, column: &ColumnDef, out: &mut Bytes) -> Result<(), NoMemory>
-    ensures ok { OnOk result (out.new ≡ out.old ++ text_of (ink_of_statement (Statement.AddColumn table.now column.now))) }
+    ensures ok { OnOk result (out.new ≡ out.old
+        ++ text_of (ink_of_statement (Statement.AddColumn table.now column.now))) }
     ensures grows { Grows out.old out.new }
 {
     put(b"ALTER TABLE ", out)?;
@@ -335,7 +351,8 @@ fn add_add_column(table: &Name, column: &ColumnDef, out: &mut Bytes) -> Result<(
 
 /// Adds ALTER TABLE .. DROP COLUMN.
 fn add_drop_column(table: &Name, column: &Name, out: &mut Bytes) -> Result<(), NoMemory>
-    ensures ok { OnOk result (out.new ≡ out.old ++ text_of (ink_of_statement (Statement.DropColumn table.now column.now))) }
+    ensures ok { OnOk result (out.new ≡ out.old
+        ++ text_of (ink_of_statement (Statement.DropColumn table.now column.now))) }
     ensures grows { Grows out.old out.new }
 {
     put(b"ALTER TABLE ", out)?;
@@ -347,7 +364,8 @@ fn add_drop_column(table: &Name, column: &Name, out: &mut Bytes) -> Result<(), N
 
 /// Adds TRUNCATE TABLE.
 fn add_truncate(table: &Name, out: &mut Bytes) -> Result<(), NoMemory>
-    ensures ok { OnOk result (out.new ≡ out.old ++ text_of (ink_of_statement (Statement.Truncate table.now))) }
+    ensures ok { OnOk result (out.new ≡ out.old
+        ++ text_of (ink_of_statement (Statement.Truncate table.now))) }
     ensures grows { Grows out.old out.new }
 {
     put(b"TRUNCATE TABLE ", out)?;

@@ -1,4 +1,4 @@
-//! How operators, kinds, functions and keywords are spelled, and the smallest pieces of a printed text.
+//! How operators, kinds, functions and keywords are spelled, and the smallest printed pieces.
 ghost use Rattle.std.specs.Prelude.{◌≡◌, ◌++◌, ◌∷◌, [], OnOk, List};
 ghost use Rattle.ql_lex.specs.declared.words.Word.TheVariants as w;
 ghost use Rattle.ql_syntax.specs.Ink as spec;
@@ -104,7 +104,8 @@ pub(crate) fn truth_bytes(truth: bool) -> &'static [u8]
 
 /// What stands before the record set of a join.
 pub(crate) fn join_bytes(side: Side) -> &'static [u8]
-    ensures { result.now ≡ text_of (space ∷ keyword (word_of_side side) ∷ space ∷ keyword w.Outer ∷ space
+    ensures { result.now ≡ text_of (space ∷ keyword (word_of_side side) ∷ space
+        ∷ keyword w.Outer ∷ space
         ∷ keyword w.Join ∷ space ∷ []) }
 {
     match side {
@@ -148,7 +149,8 @@ pub(crate) fn between_bytes(not: bool) -> &'static [u8]
 
 /// What stands behind a part that is compared with NULL.
 pub(crate) fn null_bytes(not: bool) -> &'static [u8]
-    ensures { result.now ≡ text_of (space ∷ keyword w.Is ∷ space ∷ ink_of_not not ++ (keyword w.Null ∷ [])) }
+    ensures { result.now ≡ text_of (space ∷ keyword w.Is ∷ space
+        ∷ ink_of_not not ++ (keyword w.Null ∷ [])) }
 {
     if not { b" IS NOT NULL" } else { b" IS NULL" }
 }
