@@ -9,8 +9,9 @@ ghost use Rattle.ql_syntax.specs.StatementPrinting.{ink_of_option};
 ghost use Rattle.ql_syntax.specs.StoredParts.{ExprsReadBack};
 
 use crate::spelling::{
-    add_alias, add_column_ref, add_ops, between_bytes, comma, direction_bytes, function_name,
-    in_bytes, join_bytes, kind_bytes, null_bytes, operator_bytes, put, select_bytes, truth_bytes,
+    add_alias, add_column_ref, add_ops, between_bytes, comma_before, direction_bytes,
+    function_name, in_bytes, join_bytes, kind_bytes, null_bytes, operator_bytes, put, select_bytes,
+    truth_bytes,
 };
 use ql_edge::{Boxed, Bytes, NoMemory};
 use ql_syntax::{
@@ -120,7 +121,7 @@ pub(crate) fn add_exprs(exprs: &Exprs, out: &mut Bytes) -> Result<(), NoMemory>
     ensures grows { Grows out.old out.new }
 {
     'exprs: for (i, expr) in exprs.as_slice().iter().enumerate() {
-        put(comma(i), out)?;
+        put(comma_before(i), out)?;
         add_expr(expr, out)?;
     }
     Ok(())
@@ -193,7 +194,7 @@ fn add_fields(fields: &Fields, out: &mut Bytes) -> Result<(), NoMemory>
         return put(b"*", out);
     }
     'fields: for (i, field) in fields.as_slice().iter().enumerate() {
-        put(comma(i), out)?;
+        put(comma_before(i), out)?;
         add_field(field, out)?;
     }
     Ok(())
@@ -222,7 +223,7 @@ fn add_sets(sets: &FromSets, out: &mut Bytes) -> Result<(), NoMemory>
     }
     put(b" FROM ", out)?;
     'sets: for (i, set) in sets.as_slice().iter().enumerate() {
-        put(comma(i), out)?;
+        put(comma_before(i), out)?;
         add_set(set, out)?;
     }
     Ok(())

@@ -11,7 +11,7 @@ ghost use Rattle.ql_syntax.specs.StoredParts.{ColumnsReadBack, ItemsReadBack, Ma
 ghost use Rattle.ql_syntax.specs.StatementPrinting.{ink_of_assign, ink_of_column, ink_of_if_exists, ink_of_if_not_exists, ink_of_item, ink_of_names, ink_of_option, ink_of_row, ink_of_rows, ink_of_rule, ink_of_statement, ink_of_unique};
 
 use crate::print::{add_expr, add_exprs, add_filter, add_select};
-use crate::spelling::{comma, kind_bytes, put};
+use crate::spelling::{comma_before, kind_bytes, put};
 use ql_edge::{Boxed, Bytes, Name, Names, NoMemory};
 use ql_syntax::{
     Assign, Assigns, ColumnDef, ColumnDefs, Expr, ExprRows, Exprs, Item, RowSource, Statement,
@@ -109,7 +109,7 @@ fn add_columns(columns: &ColumnDefs, out: &mut Bytes) -> Result<(), NoMemory>
 {
     put(b"(", out)?;
     'columns: for (i, column) in columns.as_slice().iter().enumerate() {
-        put(comma(i), out)?;
+        put(comma_before(i), out)?;
         add_column(column, out)?;
     }
     put(b")", out)?;
@@ -148,7 +148,7 @@ fn add_names(names: &Names, out: &mut Bytes) -> Result<(), NoMemory>
     }
     put(b" (", out)?;
     'names: for (i, name) in names.as_slice().iter().enumerate() {
-        put(comma(i), out)?;
+        put(comma_before(i), out)?;
         put(name.as_slice(), out)?;
     }
     put(b")", out)?;
@@ -172,7 +172,7 @@ fn add_rows(rows: &ExprRows, out: &mut Bytes) -> Result<(), NoMemory>
     ensures grows { Grows out.old out.new }
 {
     'rows: for (i, row) in rows.as_slice().iter().enumerate() {
-        put(comma(i), out)?;
+        put(comma_before(i), out)?;
         add_row(row, out)?;
     }
     Ok(())
@@ -214,7 +214,7 @@ fn add_assigns(assigns: &Assigns, out: &mut Bytes) -> Result<(), NoMemory>
     ensures grows { Grows out.old out.new }
 {
     'assigns: for (i, assign) in assigns.as_slice().iter().enumerate() {
-        put(comma(i), out)?;
+        put(comma_before(i), out)?;
         add_assign(assign, out)?;
     }
     Ok(())

@@ -156,14 +156,14 @@ pub(crate) fn null_bytes(not: bool) -> &'static [u8]
 }
 
 /// What stands before an operator with this number.
-fn blank(index: usize) -> &'static [u8]
+fn blank_before(index: usize) -> &'static [u8]
     ensures { result.now ≡ text_of (gap_before (space ∷ []) index) }
 {
     if index == 0 { b"" } else { b" " }
 }
 
 /// What stands before a part of a list with this number.
-pub(crate) fn comma(index: usize) -> &'static [u8]
+pub(crate) fn comma_before(index: usize) -> &'static [u8]
     ensures { result.now ≡ text_of (gap_before spec.comma index) }
 {
     if index == 0 { b"" } else { b", " }
@@ -210,7 +210,7 @@ pub(crate) fn add_ops(ops: &[UnOp], out: &mut Bytes) -> Result<(), NoMemory>
     ensures grows { Grows out.old out.new }
 {
     'ops: for (i, op) in ops.iter().enumerate() {
-        put(blank(i), out)?;
+        put(blank_before(i), out)?;
         put(prefix_bytes(*op), out)?;
     }
     Ok(())
