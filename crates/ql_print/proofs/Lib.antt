@@ -39,3 +39,5 @@ pub mod SoundStatements
 pub mod Alone
 pub mod KeptParts
 pub mod MadeStatements
+pub mod PlainAgain
+pub mod PlainStatements

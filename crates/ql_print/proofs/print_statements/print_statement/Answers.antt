@@ -1,5 +1,6 @@
 use Rattle.ql_print.proofs.KeptParts.{parts_read_back}
 use Rattle.ql_print.proofs.MadeStatements.{made_read_back}
+use Rattle.ql_print.proofs.PlainStatements.{plain_laws}
 use Rattle.ql_print.proofs.ReadBack.{read_back_laws}
 use Rattle.ql_print.proofs.print_statements.print_statement.Goals as goal
 
@@ -20,3 +21,9 @@ returns-in-Ok-clause-made c = made_read_back
 
 pub returns-in-Err-clause-made : goal.returns-in-Err-clause-made
 returns-in-Err-clause-made c = made_read_back
+
+pub returns-in-Ok-clause-same_text : goal.returns-in-Ok-clause-same_text
+returns-in-Ok-clause-same_text c = plain_laws
+
+pub returns-in-Err-clause-same_text : goal.returns-in-Err-clause-same_text
+returns-in-Err-clause-same_text c = plain_laws
