@@ -9,9 +9,8 @@ use Rattle.ql_syntax.specs.declared.statement.Statement.{Statement}
 use Rattle.ql_syntax.specs.declared.statement.Statement.TheVariants as s
 use Rattle.ql_syntax.specs.declared.syntax.Expr.{Expr}
 use Rattle.ql_syntax.specs.Printing.{ink_of_expr}
-use Rattle.ql_syntax.specs.ReadsBack.{plain_expr, plain_option, plain_column, plain_rows, plain_assign, plain_statement}
+use Rattle.ql_syntax.specs.ReadsBack.{plain_expr, plain_option, plain_column, plain_rows, plain_assign, plain_statement, PlainLaws}
 use Rattle.ql_syntax.specs.StatementPrinting.{ink_of_option, ink_of_rule, ink_of_column, ink_of_row, ink_of_rows, ink_of_assign, ink_of_statement}
-use Rattle.ql_syntax.specs.StoredParts.{PlainLaws}
 use Rattle.ql_print.proofs.PlainAgain.{plain_expr_same, plain_select_same}
 
 -- where each part is the same, all parts are

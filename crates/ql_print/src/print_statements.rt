@@ -6,8 +6,8 @@ ghost use Rattle.ql_lex.specs.declared.words.Word.TheVariants as w;
 ghost use Rattle.ql_syntax.specs.Ink as spec;
 ghost use Rattle.ql_syntax.specs.Ink.{bracketed, keyword, listed, small, space, text_of, Grows};
 ghost use Rattle.ql_syntax.specs.Printing.{behind, word_of_kind};
-ghost use Rattle.ql_syntax.specs.ReadsBack.{ReadBackLaws};
-ghost use Rattle.ql_syntax.specs.StoredParts.{ColumnsReadBack, ItemsReadBack, MadeReadBack, PartsReadBack, PlainLaws};
+ghost use Rattle.ql_syntax.specs.ReadsBack.{PlainLaws, ReadBackLaws};
+ghost use Rattle.ql_syntax.specs.StoredParts.{ColumnsReadBack, ItemsReadBack, MadeReadBack, PartsReadBack};
 ghost use Rattle.ql_syntax.specs.StatementPrinting.{ink_of_assign, ink_of_column, ink_of_if_exists, ink_of_if_not_exists, ink_of_item, ink_of_names, ink_of_option, ink_of_row, ink_of_rows, ink_of_rule, ink_of_statement, ink_of_unique};
 
 use crate::print::{add_expr, add_exprs, add_filter, add_select};

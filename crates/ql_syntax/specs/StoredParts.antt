@@ -12,10 +12,10 @@ use Rattle.ql_syntax.specs.Ink.{text_of}
 use Rattle.ql_syntax.specs.Lexemes.{Lexeme, lexemes, is_id, is_open}
 use Rattle.ql_syntax.specs.Printing.{ink_of_expr}
 use Rattle.ql_syntax.specs.Readings.{Parse, Reads, group}
-use Rattle.ql_syntax.specs.ReadsBack.{plain_expr, plain_column, plain_statement, IsReadBack}
+use Rattle.ql_syntax.specs.ReadsBack.{plain_expr, plain_column, IsReadBack}
 use Rattle.ql_syntax.specs.Rules.{Rule, before, nothing, ◌then◌, ◌or◌, bracketed, name, the, expr, column}
 use Rattle.ql_syntax.specs.Scripts.{limit}
-use Rattle.ql_syntax.specs.StatementPrinting.{ink_of_column, ink_of_item, ink_of_statement}
+use Rattle.ql_syntax.specs.StatementPrinting.{ink_of_column, ink_of_item}
 use Rattle.ql_syntax.specs.Statements.{IsRead, column_of, item_of}
 use Rattle.ql_syntax.specs.Trees.{expr_of}
 
@@ -108,12 +108,3 @@ pub record MadeReadBack : Type 0 where
       IsName table → WasRead (the column) column_of limit x → IsReadBack (s.AddColumn table x)
   pub indexes : (unique quiet : Bool) (index table : List ℕ) (x : Item) →
       IsName index → IsName table → WasRead item inner_item_of inner_limit x → IsReadBack (s.CreateIndex unique quiet index table x)
-
--- what is read back prints the same text again, and is read back once more as itself
-pub record PlainLaws : Type 0 where
-  pub expr_text : (x : Expr) → ink_of_expr (plain_expr x) ≡ ink_of_expr x
-  pub expr_again : (x : Expr) → plain_expr (plain_expr x) ≡ plain_expr x
-  pub column_text : (x : ColumnDef) → ink_of_column (plain_column x) ≡ ink_of_column x
-  pub column_again : (x : ColumnDef) → plain_column (plain_column x) ≡ plain_column x
-  pub statement_text : (x : Statement) → ink_of_statement (plain_statement x) ≡ ink_of_statement x
-  pub statement_again : (x : Statement) → plain_statement (plain_statement x) ≡ plain_statement x
