@@ -1,15 +1,13 @@
 -- What was read is read again from what it prints by itself.
 use Rattle.std.proofs.Common.{◌≡◌, ℕ, zero, suc, ◌+◌, ◌-◌, ◌≤◌, List, [], ◌∷◌, ◌++◌, Ok, refl, sym, ◌∙◌, subst, append-nil, arith}
-use Rattle.std.specs.Prelude.{All, IfSome, codes}
+use Rattle.std.specs.Prelude.{All, IfSome}
 use Rattle.std.proofs.lemmas.List.Elements.{All-nil, All-cons}
 use Rattle.ql_lex.specs.Tokens as lex
-use Rattle.ql_lex.specs.declared.marks.Mark.TheVariants as m
 use Rattle.ql_lex.specs.declared.token.Token.{Token}
 use Rattle.ql_lex.specs.declared.words.Word.TheVariants as w
 use Rattle.ql_syntax.specs.declared.statement.ColumnDef.{ColumnDef}
 use Rattle.ql_syntax.specs.declared.statement.Item.{Item}
-use Rattle.ql_syntax.specs.declared.syntax.Expr.{Expr}
-use Rattle.ql_syntax.specs.Ink.{Ink, text_of, tokens_of}
+use Rattle.ql_syntax.specs.Ink.{text_of, tokens_of}
 use Rattle.ql_syntax.specs.Lexemes.{Lexeme, lexemes}
 use Rattle.ql_syntax.specs.Printing.{Inks, ink_of_expr}
 use Rattle.ql_syntax.specs.Readings.{Parse, Reads}
@@ -17,7 +15,7 @@ use Rattle.ql_syntax.specs.Readings as r
 use Rattle.ql_syntax.specs.Rules.{Rule, ◌then◌, ◌or◌, maybe, word, the, expr, column}
 use Rattle.ql_syntax.specs.StatementPrinting.{ink_of_column, ink_of_item}
 use Rattle.ql_syntax.specs.Statements.{column_of, rule_in}
-use Rattle.ql_syntax.specs.StoredParts.{item, inner_item_of, WasRead, IsReadFrom, IsExprBack, IsColumnBack, IsItemBack, IsColumnKept, IsItemKept, ExprsReadBack, ColumnsReadBack, ItemsReadBack}
+use Rattle.ql_syntax.specs.StoredParts.{item, inner_item_of, WasRead, IsReadFrom, IsExprBack, IsColumnBack, IsItemBack, ExprsReadBack, ColumnsReadBack, ItemsReadBack}
 use Rattle.ql_syntax.specs.Trees.{expr_of, option_of}
 use Rattle.ql_print.proofs.Back.{exprs_again}
 use Rattle.ql_print.proofs.BackColumns.{back_column_def}

@@ -7,17 +7,15 @@ use Rattle.ql_lex.specs.Tokens.{IsName}
 use Rattle.ql_lex.specs.declared.marks.Mark.TheVariants as m
 use Rattle.ql_lex.specs.declared.token.Token.{Token}
 use Rattle.ql_lex.specs.declared.words.Word.TheVariants as w
-use Rattle.ql_syntax.specs.declared.statement.ColumnDef.{ColumnDef}
 use Rattle.ql_syntax.specs.declared.statement.Statement.{Statement}
 use Rattle.ql_syntax.specs.Lexemes.{Lexeme, lexemes}
 use Rattle.ql_syntax.specs.Lexemes as lexeme
 use Rattle.ql_syntax.specs.Readings.{Parse, Reads}
 use Rattle.ql_syntax.specs.Readings as r
 use Rattle.ql_syntax.specs.Rules.{Rule, ◌then◌, ◌or◌, maybe, many, further, mark, word, name, the, script, statement, creation, removal, alteration, insertion, update, deletion, column}
-use Rattle.ql_syntax.specs.Rules as rule
 use Rattle.ql_syntax.specs.Scripts.{limit}
-use Rattle.ql_syntax.specs.Statements.{IsRead, column_of, columns_of, creation_of, removal_of, alteration_of, insertion_of, update_of, deletion_of, after_removal, statement_of, with_statement, later_of, statements_of}
-use Rattle.ql_syntax.specs.StoredParts.{inner_limit, item, inner_item_of, WasRead, IsColumnKept, IsItemKept, ArePartsKept, PartsReadBack}
+use Rattle.ql_syntax.specs.Statements.{column_of, columns_of, creation_of, removal_of, alteration_of, insertion_of, update_of, deletion_of, after_removal, statement_of, with_statement, later_of, statements_of}
+use Rattle.ql_syntax.specs.StoredParts.{inner_limit, inner_item_of, WasRead, IsColumnKept, IsItemKept, ArePartsKept, PartsReadBack}
 use Rattle.ql_print.proofs.Alone.{spelled_from, columns_read_back, items_read_back}
 use Rattle.ql_print.proofs.Fits.{AreSpelled, is_name}
 

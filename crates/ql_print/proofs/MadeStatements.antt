@@ -1,6 +1,5 @@
 -- A statement that is put together from parts that were read is read back.
-use Rattle.std.proofs.Common.{◌≡◌, ℕ, suc, Bool, false, List, [], ◌∷◌, map, refl, sym, subst}
-use Rattle.std.specs.Prelude.{All}
+use Rattle.std.proofs.Common.{◌≡◌, ℕ, Bool, false, List, [], ◌∷◌, map, refl, sym, subst}
 use Rattle.std.specs.List.{AllByRecursion}
 use Rattle.std.proofs.lemmas.List.Elements.{recursion_from_All}
 use Rattle.ql_lex.specs.Tokens.{IsName}
@@ -14,10 +13,10 @@ use Rattle.ql_syntax.specs.Lexemes.{Lexeme, sees, is_open}
 use Rattle.ql_syntax.specs.ReadsBack.{plain_column, IsReadBack}
 use Rattle.ql_syntax.specs.Rules.{the, column}
 use Rattle.ql_syntax.specs.Scripts.{limit}
-use Rattle.ql_syntax.specs.StatementPrinting.{ink_of_column, ink_of_item, ink_of_statement}
+use Rattle.ql_syntax.specs.StatementPrinting.{ink_of_column, ink_of_statement}
 use Rattle.ql_syntax.specs.Statements.{column_of, columns_of}
 use Rattle.ql_syntax.specs.StoredParts.{inner_limit, item, inner_item_of, WasRead, MadeReadBack}
-use Rattle.ql_print.proofs.Alone.{spelled_here, IsKnown, known}
+use Rattle.ql_print.proofs.Alone.{spelled_here, known}
 use Rattle.ql_print.proofs.BackColumns.{after_column, back_column_def}
 use Rattle.ql_print.proofs.BackLists.{BackItem, BackMore, no_more, one_more, listed}
 use Rattle.ql_print.proofs.BackParts.{Avoids}

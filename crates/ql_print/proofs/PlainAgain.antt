@@ -1,11 +1,9 @@
 -- A tree with `count()` for `count(*)` prints as the tree does, and a second time nothing changes.
-use Rattle.std.proofs.Common.{◌≡◌, ℕ, Bool, true, false, List, [], ◌∷◌, ◌++◌, Option, Some, None, map, refl, sym, ap, subst, ◌∙◌}
+use Rattle.std.proofs.Common.{◌≡◌, ℕ, Bool, false, List, [], ◌∷◌, Option, Some, None, map, refl, sym, ap, subst}
 use Rattle.std.specs.Prelude.{option_map}
-use Rattle.ql_lex.specs.declared.words.Word.TheVariants as w
 use Rattle.ql_value.specs.declared.operator.BinOp.{BinOp}
 use Rattle.ql_value.specs.declared.operator.UnOp.{UnOp}
 use Rattle.ql_value.specs.declared.value.Kind.{Kind}
-use Rattle.ql_syntax.specs.declared.statement.ColumnDef.{ColumnDef}
 use Rattle.ql_syntax.specs.declared.syntax.Expr.{Expr, map-Expr, roll-Expr}
 use Rattle.ql_syntax.specs.declared.syntax.Expr.TheVariants as e
 use Rattle.ql_syntax.specs.declared.syntax.Expr.TheOpen.{Expr-F, SetSource-F, Select-F}
@@ -21,7 +19,7 @@ use Rattle.ql_syntax.specs.declared.syntax.SetSource.TheVariants as source
 use Rattle.ql_syntax.specs.declared.syntax.Side.{Side}
 use Rattle.ql_syntax.specs.Printing.{Inks, ink_of_expr, ink_of_link, ink_of_select, ink_of_field, ink_of_source, ink_of_set, ink_of_one_join}
 use Rattle.ql_syntax.specs.ReadsBack.{plain_expr, plain_link, plain_select, plain_field, plain_source, plain_set, plain_join}
-use Rattle.ql_syntax.proofs.PrintingEquations.{of_chain, of_unary, of_number, of_text, of_truth, of_null, of_column, of_paren, of_call, of_convert, of_in, of_in_select, of_between, of_is_null, of_table, of_query, of_link, of_field, of_set, of_join, of_select}
+use Rattle.ql_syntax.proofs.PrintingEquations.{of_chain, of_unary, of_paren, of_call, of_convert, of_in, of_in_select, of_between, of_is_null, of_query, of_link, of_field, of_set, of_join, of_select}
 use Rattle.ql_print.proofs.PlainEquations.{plain_of_chain, plain_of_unary, plain_of_number, plain_of_text, plain_of_truth, plain_of_null, plain_of_column, plain_of_paren, plain_of_call, plain_of_convert, plain_of_in, plain_of_in_select, plain_of_between, plain_of_is_null, plain_of_table, plain_of_query, plain_of_link, plain_of_field, plain_of_set, plain_of_join, plain_of_select}
 
 -- a part with `count()` for `count(*)` prints as the part does, and a second time nothing changes

@@ -14,7 +14,7 @@ use Rattle.ql_lex.proofs.PlaceLemmas.{whole_in}
 use Rattle.ql_value.specs.Print.{quoted}
 use Rattle.ql_syntax.specs.declared.statement.Statement.{Statement}
 use Rattle.ql_syntax.specs.Ink.{text_of}
-use Rattle.ql_syntax.specs.Lexemes.{Lexeme, lexemes, is_number, is_id, is_open}
+use Rattle.ql_syntax.specs.Lexemes.{Lexeme, lexemes, is_number}
 use Rattle.ql_syntax.specs.Printing.{Inks, ink_of_expr}
 use Rattle.ql_syntax.specs.Rules.{Rule, ◌then◌, ◌or◌, the, token, before, nothing, many, maybe, further, list, word, mark, expr, select, column, statement, creation, removal, alteration, insertion, update, deletion}
 use Rattle.ql_syntax.specs.Rules as rule
