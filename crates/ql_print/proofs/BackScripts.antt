@@ -81,10 +81,10 @@ script_reads : {n : ℕ} {ts : List Lexeme} {a : Parse} → Reads n (the stateme
 script_reads h = r.both (r.entered (statement_begins h) h) (r.both (r.ended refl) r.at_end)
 
 -- a printed statement is a script
-abbrev IsAgain : Statement → Type 0
+abbrev pub IsAgain : Statement → Type 0
 IsAgain s = IsRead (tokens_of (ink_of_statement s)) (plain_statement s ∷ [])
 
-is_again : (s : Statement) → BackStatement limit s → IsAgain s
+pub is_again : (s : Statement) → BackStatement limit s → IsAgain s
 is_again s b =
     let same : tokens_of (ink_of_statement s) ≡ statement_before s [] = sym (append-nil (tokens_of (ink_of_statement s))) ∙ statement_is s [] in
     record {

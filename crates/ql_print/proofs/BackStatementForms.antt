@@ -117,11 +117,11 @@ rule_is true rule rest = refl
 rule_is false None rest = refl
 rule_is false (Some rule) rest = refl
 
-column_is : (x : ColumnDef) (rest : List Lexeme) → before (ink_of_column x) rest ≡ column_before x rest
+pub column_is : (x : ColumnDef) (rest : List Lexeme) → before (ink_of_column x) rest ≡ column_before x rest
 column_is x rest = ap (λ ts. name_token x.name ∷ small_token (word_of_kind x.kind) ∷ ts)
     (before_both (ink_of_rule x.not_null x.rule) _ rest ∙ rule_is x.not_null x.rule _ ∙ ap (rule_before x.not_null x.rule) (option_is w.Default x.default rest))
 
-item_is : (x : Item) (rest : List Lexeme) → before (ink_of_item x) rest ≡ item_before x rest
+pub item_is : (x : Item) (rest : List Lexeme) → before (ink_of_item x) rest ≡ item_before x rest
 item_is (item.Column column) rest = refl
 item_is item.Id rest = refl
 

@@ -16,6 +16,7 @@ use Rattle.ql_syntax.specs.Lexemes.{Lexeme, is_word, is_comma, is_open, is_id, s
 use Rattle.ql_syntax.specs.Rules.{Rule, before, nothing, ◌then◌, ◌or◌, maybe, list, bracketed, if_exists, if_not_exists, mark, word, name, the, expr, select, statement, creation, removal, alteration, insertion, update, deletion, column}
 use Rattle.ql_syntax.specs.Readings.{Parse, Reads, leaf, pair, left, right, absent, present, group, node}
 use Rattle.ql_syntax.specs.Readings as r
+use Rattle.ql_syntax.specs.StoredParts.{item, inner_item_of}
 use Rattle.ql_syntax.specs.Trees.{is_present}
 use Rattle.ql_syntax.specs.Statements.{source_of, column_of, columns_of, row_of, rows_of, assign_of, assigns_of, item_of, creation_of, removal_of, alteration_of, insertion_of, update_of, deletion_of, after_removal, statement_of}
 use Rattle.ql_syntax.specs.ReadsBack.{plain_expr, plain_column, plain_assign, plain_rows, plain_statement}
@@ -84,25 +85,37 @@ creation_reads : {n : ℕ} {ts rest : List Lexeme} {a : Parse} → Reads n (the 
     Reads n (the statement) (word_token w.Create ∷ ts) (node statement (right (right (right (right (left a)))))) rest
 creation_reads h = r.by_rule (r.second refl refl (r.second refl refl (r.second refl refl (r.second refl refl (r.first refl h)))))
 
--- what an index orders by
-record BackIndexItem (n : ℕ) (it : Item) (rest : List Lexeme) : Type 0 where
-  parse : Parse
-  reads : Reads n (bracketed (before is_id is_open then bracketed nothing or name)) (mark_token m.Open ∷ item_before it (mark_token m.Close ∷ rest)) parse rest
-  tree : item_of parse ≡ it
+-- what an index orders by, in the brackets of CREATE INDEX
+pub record BackInnerItem (n : ℕ) (it : Item) (rest : List Lexeme) : Type 0 where
+  pub parse : Parse
+  pub reads : Reads n item (item_before it rest) parse rest
+  pub tree : inner_item_of parse ≡ it
 
-back_item : {n : ℕ} {ts r : List Lexeme} {a : Parse} → Reads n (bracketed (before is_id is_open then bracketed nothing or name)) ts a r → (rest : List Lexeme) → BackIndexItem n (item_of a) rest
-back_item (r.enclosed o (r.first e (r.both s (r.enclosed o' h c'))) c) rest = record {
-  parse = group (left (pair (leaf (name_token (codes "id"))) (group absent)));
-  reads = r.enclosed refl (r.first refl (r.both (r.takes_before refl refl) (r.enclosed refl r.takes_nothing refl))) refl;
+pub back_inner_item : {n : ℕ} {ts r : List Lexeme} {a : Parse} → Reads n item ts a r → (rest : List Lexeme) → sees is_open rest ≡ false → BackInnerItem n (inner_item_of a) rest
+back_inner_item (r.first e (r.both s (r.enclosed o h c))) rest after = record {
+  parse = left (pair (leaf (name_token (codes "id"))) (group absent));
+  reads = r.first refl (r.both (r.takes_before refl refl) (r.enclosed refl r.takes_nothing refl));
   tree = refl;
 }
-back_item (r.enclosed o (r.second e d (r.takes {t = t} s)) c) rest = record {
-  parse = group (right (leaf (name_token t.text)));
-  reads = r.enclosed refl (r.second (and_false (is_id (name_token t.text)) _ refl) refl (r.takes refl)) refl;
+back_inner_item (r.second e d (r.takes {t = t} s)) rest after = record {
+  parse = right (leaf (name_token t.text));
+  reads = r.second (and_false (is_id (name_token t.text)) _ after) refl (r.takes refl);
   tree = refl;
 }
 
-table_created : {n : ℕ} (quiet : Bool) (table : List ℕ) {x : ColumnDef} {xs : List ColumnDef} → BackList n (the column) column_before column_of columns_of plain_column (x ∷ xs) (mark_token m.Close ∷ []) →
+-- the same with its brackets
+pub record BackIndexItem (n : ℕ) (it : Item) (rest : List Lexeme) : Type 0 where
+  pub parse : Parse
+  pub reads : Reads n (bracketed item) (mark_token m.Open ∷ item_before it (mark_token m.Close ∷ rest)) parse rest
+  pub tree : item_of parse ≡ it
+
+pub item_enclosed : {n : ℕ} {it : Item} {rest : List Lexeme} → BackInnerItem n it (mark_token m.Close ∷ rest) → BackIndexItem (suc n) it rest
+item_enclosed b = record { parse = group b.parse; reads = r.enclosed refl b.reads refl; tree = b.tree }
+
+back_item : {n : ℕ} {ts r : List Lexeme} {a : Parse} → Reads n (bracketed item) ts a r → (rest : List Lexeme) → BackIndexItem n (item_of a) rest
+back_item (r.enclosed o h c) rest = item_enclosed (back_inner_item h (mark_token m.Close ∷ rest) refl)
+
+pub table_created : {n : ℕ} (quiet : Bool) (table : List ℕ) {x : ColumnDef} {xs : List ColumnDef} → BackList n (the column) column_before column_of columns_of plain_column (x ∷ xs) (mark_token m.Close ∷ []) →
     BackStatement (suc n) (s.CreateTable quiet table (x ∷ xs))
 table_created quiet table l = record {
   parse = node statement (right (right (right (right (left (node creation (pair (leaf (word_token w.Create)) (left (pair (leaf (word_token w.Table)) (pair (not_exists_parse quiet) (pair (leaf (name_token table)) (group (pair l.first l.more)))))))))))));
@@ -110,7 +123,7 @@ table_created quiet table l = record {
   tree = rw (not_exists_present quiet) (ap (s.CreateTable quiet table) l.tree);
 }
 
-index_created : {n : ℕ} (unique quiet : Bool) (index table : List ℕ) {it : Item} → BackIndexItem n it [] → BackStatement n (s.CreateIndex unique quiet index table it)
+pub index_created : {n : ℕ} (unique quiet : Bool) (index table : List ℕ) {it : Item} → BackIndexItem n it [] → BackStatement n (s.CreateIndex unique quiet index table it)
 index_created {n = n} unique quiet index table {it = it} b =
     let behind : List Lexeme = if_not_exists_before quiet (name_token index ∷ word_token w.On ∷ name_token table ∷ mark_token m.Open ∷ item_before it (mark_token m.Close ∷ [])) in
     let reads : Reads n index_rule (word_token w.Index ∷ behind) (pair (leaf (word_token w.Index)) (pair (not_exists_parse quiet) (pair (leaf (name_token index)) (pair (leaf (word_token w.On)) (pair (leaf (name_token table)) b.parse))))) [] =
@@ -153,7 +166,7 @@ alteration_reads : {n : ℕ} {ts rest : List Lexeme} {a : Parse} → Reads n (th
     Reads n (the statement) (word_token w.Alter ∷ ts) (node statement (right (right (right (right (right (right (left a)))))))) rest
 alteration_reads h = r.by_rule (r.second refl refl (r.second refl refl (r.second refl refl (r.second refl refl (r.second refl refl (r.second refl refl (r.first refl h)))))))
 
-column_added : {n : ℕ} (table : List ℕ) {x : ColumnDef} → BackItem n (the column) column_before column_of plain_column x [] → BackStatement n (s.AddColumn table x)
+pub column_added : {n : ℕ} (table : List ℕ) {x : ColumnDef} → BackItem n (the column) column_before column_of plain_column x [] → BackStatement n (s.AddColumn table x)
 column_added table b = record {
   parse = node statement (right (right (right (right (right (right (left (node alteration (pair (leaf (word_token w.Alter)) (pair (leaf (word_token w.Table)) (pair (leaf (name_token table)) (left (pair (leaf (word_token w.Add)) b.parse)))))))))))));
   reads = alteration_reads (r.by_rule (r.both (r.takes refl) (r.both (r.takes refl) (r.both (r.takes refl) (r.first refl (r.both (r.takes refl) b.reads))))));

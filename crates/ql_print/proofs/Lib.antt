@@ -36,3 +36,8 @@ pub mod SoundLevels
 pub mod SoundQueries
 pub mod SoundForms
 pub mod SoundStatements
+pub mod Alone
+pub mod KeptParts
+pub mod MadeStatements
+pub mod PlainAgain
+pub mod PlainStatements

@@ -1,5 +1,5 @@
 -- What the steps of printing add, put together.
-use Rattle.std.proofs.Common.{◌≡◌, ℕ, ◌+◌, ◌<◌, Bool, true, false, List, [], ◌∷◌, ◌++◌, length, take, get_or, refl, sym, ap, ◌∙◌, append_assoc, append-nil, arith}
+use Rattle.std.proofs.Common.{◌≡◌, ℕ, ◌+◌, ◌<◌, Bool, true, false, List, [], ◌∷◌, ◌++◌, length, take, get_or, Option, Some, None, refl, sym, ap, ◌∙◌, append_assoc, append-nil, arith}
 use Rattle.std.specs.Prelude.{◌==◌, codes, map, option_map, flat_map}
 use Rattle.std.proofs.lemmas.Grind.{flat_map-append}
 use Rattle.std.proofs.lemmas.List.{length-map, length-take-le, map-append}
@@ -15,7 +15,7 @@ use Rattle.ql_syntax.specs.declared.syntax.Select.{Select, out-Select}
 use Rattle.ql_lex.specs.declared.marks.Mark.TheVariants as m
 use Rattle.ql_syntax.specs.Ink.{space, keyword, listed, mark, name, text_of, between, gap_before}
 use Rattle.ql_syntax.specs.Printing.{Inks, behind, ink_of_not, ink_of_fields, ink_of_sets, ink_of_join, ink_of_groups, ink_of_keys, ink_of_distinct, word_of_side, expr_step, source_step, field_step, set_step, join_step, link_step, select_step, ink_of_expr, ink_of_select, ink_of_field, ink_of_set, ink_of_one_join}
-use Rattle.ql_syntax.specs.StatementPrinting.{ink_of_names}
+use Rattle.ql_syntax.specs.StatementPrinting.{ink_of_names, ink_of_option}
 use Rattle.ql_print.proofs.Growth.{text_append}
 use Rattle.ql_syntax.proofs.PrintingEquations.{of_is_null, of_between, of_select}
 
@@ -28,31 +28,37 @@ nine a b c d f g h i j = simp text_append
 five : (a b c d f : Inks) → text_of (a ++ (b ++ (c ++ (d ++ f)))) ≡ text_of a ++ (text_of b ++ (text_of c ++ (text_of d ++ text_of f)))
 five a b c d f = simp text_append
 
+-- an expression that may be left out
+option_ink : (x : Option Expr) → option_map ink_of_expr x ≡ ink_of_option x
+option_ink None = refl
+option_ink (Some x) = refl
+
 -- what a SELECT prints, from its fields
 select_out : (s : Select) → ink_of_select s
     ≡ (keyword w.Select ∷ space ∷ ink_of_distinct (out-Select s).distinct) ++ (ink_of_fields (map ink_of_field (out-Select s).fields) ++ (ink_of_sets (map ink_of_set (out-Select s).sets)
-    ++ (ink_of_join (option_map ink_of_one_join (out-Select s).join) ++ (behind w.Where (option_map ink_of_expr (out-Select s).filter)
+    ++ (ink_of_join (option_map ink_of_one_join (out-Select s).join) ++ (behind w.Where (ink_of_option (out-Select s).filter)
     ++ (ink_of_groups (map ink_of_expr (out-Select s).groups) ++ (ink_of_keys (map ink_of_expr (out-Select s).keys) (out-Select s).descending
-    ++ (behind w.Limit (option_map ink_of_expr (out-Select s).limit) ++ behind w.Offset (option_map ink_of_expr (out-Select s).offset))))))))
+    ++ (behind w.Limit (ink_of_option (out-Select s).limit) ++ behind w.Offset (ink_of_option (out-Select s).offset))))))))
 select_out s =
     let x = out-Select s in
+    rw (← option_ink x.filter, ← option_ink x.limit, ← option_ink x.offset) (
     fold_out-Select Inks Inks Inks Inks Inks Inks Inks expr_step source_step field_step set_step join_step link_step select_step s
     ∙ sym (fold-roll-Select Inks Inks Inks Inks Inks Inks Inks expr_step source_step field_step set_step join_step link_step select_step x)
-    ∙ of_select x.distinct x.fields x.sets x.join x.filter x.groups x.keys x.descending x.limit x.offset
+    ∙ of_select x.distinct x.fields x.sets x.join x.filter x.groups x.keys x.descending x.limit x.offset)
 
 -- the text of a SELECT
 pub select_text : (s : Select) → text_of (ink_of_select s)
     ≡ text_of (keyword w.Select ∷ space ∷ ink_of_distinct (out-Select s).distinct) ++ (text_of (ink_of_fields (map ink_of_field (out-Select s).fields))
     ++ (text_of (ink_of_sets (map ink_of_set (out-Select s).sets)) ++ (text_of (ink_of_join (option_map ink_of_one_join (out-Select s).join))
-    ++ (text_of (behind w.Where (option_map ink_of_expr (out-Select s).filter)) ++ (text_of (ink_of_groups (map ink_of_expr (out-Select s).groups))
+    ++ (text_of (behind w.Where (ink_of_option (out-Select s).filter)) ++ (text_of (ink_of_groups (map ink_of_expr (out-Select s).groups))
     ++ (text_of (ink_of_keys (map ink_of_expr (out-Select s).keys) (out-Select s).descending)
-    ++ (text_of (behind w.Limit (option_map ink_of_expr (out-Select s).limit)) ++ text_of (behind w.Offset (option_map ink_of_expr (out-Select s).offset)))))))))
+    ++ (text_of (behind w.Limit (ink_of_option (out-Select s).limit)) ++ text_of (behind w.Offset (ink_of_option (out-Select s).offset)))))))))
 select_text s =
     ap text_of (select_out s)
     ∙ nine (keyword w.Select ∷ space ∷ ink_of_distinct (out-Select s).distinct) (ink_of_fields (map ink_of_field (out-Select s).fields)) (ink_of_sets (map ink_of_set (out-Select s).sets))
-    (ink_of_join (option_map ink_of_one_join (out-Select s).join)) (behind w.Where (option_map ink_of_expr (out-Select s).filter)) (ink_of_groups (map ink_of_expr (out-Select s).groups))
-    (ink_of_keys (map ink_of_expr (out-Select s).keys) (out-Select s).descending) (behind w.Limit (option_map ink_of_expr (out-Select s).limit))
-    (behind w.Offset (option_map ink_of_expr (out-Select s).offset))
+    (ink_of_join (option_map ink_of_one_join (out-Select s).join)) (behind w.Where (ink_of_option (out-Select s).filter)) (ink_of_groups (map ink_of_expr (out-Select s).groups))
+    (ink_of_keys (map ink_of_expr (out-Select s).keys) (out-Select s).descending) (behind w.Limit (ink_of_option (out-Select s).limit))
+    (behind w.Offset (ink_of_option (out-Select s).offset))
 
 -- the text of a part that is compared with NULL
 pub null_text : (expr part got : Expr) (negated : Bool) (b : List ℕ) → expr ≡ e.IsNull negated part → got ≡ part

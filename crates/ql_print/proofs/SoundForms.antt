@@ -121,7 +121,8 @@ abbrev pub IsNamedItem : Item → Type 0
 IsNamedItem (item.Column column) = IsName column
 IsNamedItem item.Id = Unit {0}
 
-item_sound : (it : Item) → IsNamedItem it → IsSound (ink_of_item it)
+-- what an index orders by
+pub item_sound : (it : Item) → IsNamedItem it → IsSound (ink_of_item it)
 item_sound (item.Column column) n = name_sound column n
 item_sound item.Id n = record {
   goes = λ tail e l. name_lexed _ (bracketed [] ++ tail) (function_name f.Id) refl ((bracketed_part [] empty_sound).goes tail e l);

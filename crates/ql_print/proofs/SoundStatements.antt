@@ -14,14 +14,15 @@ use Rattle.ql_lex.proofs.PlaceLemmas.{whole_in}
 use Rattle.ql_value.specs.Print.{quoted}
 use Rattle.ql_syntax.specs.declared.statement.Statement.{Statement}
 use Rattle.ql_syntax.specs.Ink.{text_of}
-use Rattle.ql_syntax.specs.Lexemes.{Lexeme, lexemes, is_number, is_id, is_open}
-use Rattle.ql_syntax.specs.Printing.{ink_of_expr}
+use Rattle.ql_syntax.specs.Lexemes.{Lexeme, lexemes, is_number}
+use Rattle.ql_syntax.specs.Printing.{Inks, ink_of_expr}
 use Rattle.ql_syntax.specs.Rules.{Rule, ◌then◌, ◌or◌, the, token, before, nothing, many, maybe, further, list, word, mark, expr, select, column, statement, creation, removal, alteration, insertion, update, deletion}
 use Rattle.ql_syntax.specs.Rules as rule
 use Rattle.ql_syntax.specs.Readings.{Parse, node}
 use Rattle.ql_syntax.specs.StatementPrinting.{ink_of_column, ink_of_row, ink_of_rows, ink_of_assign, ink_of_statement}
 use Rattle.ql_syntax.specs.Statements.{IsRead, is_not_null, rule_in, columns_of, names_of, row_of, rows_of, assigns_of, item_of, creation_of, removal_of, alteration_of, insertion_of, update_of, deletion_of, truncation_of, statement_of, with_statement, later_of, statements_of}
 use Rattle.ql_syntax.specs.Statements as tree
+use Rattle.ql_syntax.specs.StoredParts.{item, inner_item_of}
 use Rattle.ql_syntax.specs.Trees.{expr_of, exprs_of, option_of, is_present}
 use Rattle.ql_print.proofs.Fits.{Fits, Spelled, AreSpelled, fits, is_name, is_worth}
 use Rattle.ql_print.proofs.Fits as f
@@ -46,19 +47,24 @@ default_there : {n : ℕ} {a : Parse} → Fits n (maybe (word w.Default then the
 default_there f.left_out = tt
 default_there (f.entered (f.both h k)) = expr_sound k
 
-one_column : {n : ℕ} {a : Parse} → Fits n (the column) a → IsSound (ink_of_column (tree.column_of a))
-one_column (f.by_rule {a = a} (f.both (f.takes {t = t} e s) (f.both h (f.both k d)))) = column_sound (tree.column_of (node column a)) (is_name t e s) (rule_there k) (default_there d)
+-- a column
+pub column_sound_of : {n : ℕ} {a : Parse} → Fits n (the column) a → IsSound (ink_of_column (tree.column_of a))
+column_sound_of (f.by_rule {a = a} (f.both (f.takes {t = t} e s) (f.both h (f.both k d)))) = column_sound (tree.column_of (node column a)) (is_name t e s) (rule_there k) (default_there d)
 
 further_columns : {n : ℕ} {a : Parse} → Fits n (further (the column)) a → AreSound (map ink_of_column (columns_of a))
 further_columns f.no_more = none
-further_columns (f.member h k) = one (one_column h) (further_columns k)
+further_columns (f.member h k) = one (column_sound_of h) (further_columns k)
 
 columns_sound : {n : ℕ} {a : Parse} → Fits n (list (the column)) a → AreSound (map ink_of_column (columns_of a))
-columns_sound (f.both h k) = one (one_column h) (further_columns k)
+columns_sound (f.both h k) = one (column_sound_of h) (further_columns k)
 
-item_there : {n : ℕ} {a : Parse} → Fits n (rule.bracketed (before is_id is_open then rule.bracketed nothing or rule.name)) a → IsNamedItem (item_of a)
-item_there (f.enclosed (f.first h)) = tt
-item_there (f.enclosed (f.second (f.takes {t = t} e s))) = is_name t e s
+-- what an index orders by
+pub inner_item_there : {n : ℕ} {a : Parse} → Fits n item a → IsNamedItem (inner_item_of a)
+inner_item_there (f.first h) = tt
+inner_item_there (f.second (f.takes {t = t} e s)) = is_name t e s
+
+item_there : {n : ℕ} {a : Parse} → Fits n (rule.bracketed item) a → IsNamedItem (item_of a)
+item_there (f.enclosed h) = inner_item_there h
 
 -- what CREATE makes
 creation_sound : {n : ℕ} {a : Parse} → Fits n (the creation) a → IsSound (ink_of_statement (creation_of a))
@@ -74,7 +80,7 @@ removal_sound (f.by_rule (f.both c (f.second (f.both h (f.both {a = q} i (f.take
 
 -- what ALTER changes
 alteration_sound : {n : ℕ} {a : Parse} → Fits n (the alteration) a → IsSound (ink_of_statement (alteration_of a))
-alteration_sound (f.by_rule (f.both c (f.both h (f.both (f.takes {t = t} e s) (f.first (f.both {b = a} i k)))))) = add_column_sound t.text (tree.column_of a) (is_name t e s) (one_column k)
+alteration_sound (f.by_rule (f.both c (f.both h (f.both (f.takes {t = t} e s) (f.first (f.both {b = a} i k)))))) = add_column_sound t.text (tree.column_of a) (is_name t e s) (column_sound_of k)
 alteration_sound (f.by_rule (f.both c (f.both h (f.both (f.takes {t = t} e s) (f.second (f.both i (f.both j (f.takes {t = r} d l)))))))) = drop_column_sound t.text r.text (is_name t e s) (is_name r d l)
 
 further_names : {n : ℕ} {a : Parse} → Fits n (further rule.name) a → AreSound (name_inks (names_of a))
@@ -161,19 +167,20 @@ spelled_of source (t ∷ ts) h = (h.0.spelled, spelled_of source ts h.1)
 pub all_spelled : (source : List ℕ) (ts : List Token) → lex.Reads source (Ok ts) → AreSpelled (lexemes source ts)
 all_spelled source ts h = spelled_of source ts (recursion_from_All (IsIn source) ts (whole_in source ts h))
 
+-- the text of what prints soundly is read as its tokens
+pub lexed_again : (ink : Inks) → IsSound ink → IsReadAs (text_of ink) (text_of ink) ink
+lexed_again ink h =
+    let all : Lexed (ink ++ []) = h.goes [] refl over in
+    let same : ink ++ [] ≡ ink = append-nil ink in
+    read_as ink (rw same at all)
+
 -- the text of a printed statement is read as its tokens
 abbrev pub IsLexedAgain : Statement → Type 0
 IsLexedAgain s = IsReadAs (text_of (ink_of_statement s)) (text_of (ink_of_statement s)) (ink_of_statement s)
 
-lexed_again : (s : Statement) → Sound s → IsLexedAgain s
-lexed_again s h =
-    let all : Lexed (ink_of_statement s ++ []) = h.goes [] refl over in
-    let same : ink_of_statement s ++ [] ≡ ink_of_statement s = append-nil (ink_of_statement s) in
-    read_as (ink_of_statement s) (rw same at all)
-
 each_again : (ss : List Statement) → AllByRecursion Sound ss → All IsLexedAgain ss
 each_again [] h = All-nil IsLexedAgain
-each_again (s ∷ ss) h = All-cons IsLexedAgain s ss (lexed_again s h.0) (each_again ss h.1)
+each_again (s ∷ ss) h = All-cons IsLexedAgain s ss (lexed_again (ink_of_statement s) h.0) (each_again ss h.1)
 
 each_of : (ss all : List Statement) → ss ≡ all → AllByRecursion Sound all → All IsLexedAgain ss
 each_of ss all e h = each_again ss (rw e h)

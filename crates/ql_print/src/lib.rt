@@ -3,7 +3,8 @@
 
 mod print;
 mod print_statements;
-mod spelled;
+mod spelling;
 
 pub use print::print_expr;
-pub use print_statements::print_statement;
+pub use print_statements::{print_column, print_item, print_statement};
+pub use spelling::{operator_bytes, prefix_bytes};

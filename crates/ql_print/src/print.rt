@@ -1,13 +1,17 @@
+//! Printing of expressions and of SELECTs.
 #![tactic(auto, using(crate::proofs::Growth::text_append))]
 
 ghost use Rattle.std.specs.Prelude.{◌≡◌, ◌++◌, OnOk, OnErr, flat_map, map, option_map, Option};
 ghost use Rattle.ql_lex.specs.declared.words.Word.TheVariants as w;
 ghost use Rattle.ql_syntax.specs.Ink.{bracketed, listed, text_of, Grows};
 ghost use Rattle.ql_syntax.specs.Printing.{Inks, behind, ink_of_direction, ink_of_distinct, ink_of_expr, ink_of_field, ink_of_fields, ink_of_groups, ink_of_join, ink_of_keys, ink_of_link, ink_of_one_join, ink_of_select, ink_of_set, ink_of_sets, ink_of_source};
+ghost use Rattle.ql_syntax.specs.StatementPrinting.{ink_of_option};
+ghost use Rattle.ql_syntax.specs.StoredParts.{ExprsReadBack};
 
-use crate::spelled::{
-    add_alias, add_ops, add_ref, between_bytes, bin_bytes, comma, direction_bytes, function_name,
-    in_bytes, join_bytes, kind_bytes, null_bytes, put, select_bytes, truth_bytes,
+use crate::spelling::{
+    add_alias, add_column_ref, add_ops, between_bytes, comma_before, direction_bytes,
+    function_name, in_bytes, join_bytes, kind_bytes, null_bytes, operator_bytes, put, select_bytes,
+    truth_bytes,
 };
 use ql_edge::{Boxed, Bytes, NoMemory};
 use ql_syntax::{
@@ -36,7 +40,7 @@ pub(crate) fn add_expr(expr: &Expr, out: &mut Bytes) -> Result<(), NoMemory>
         Expr::Text(text) => print_text(text.as_slice(), out),
         Expr::Truth(truth) => put(truth_bytes(*truth), out),
         Expr::Null => put(b"NULL", out),
-        Expr::Column { table, column } => add_ref(table, column.get(), out),
+        Expr::Column { table, column } => add_column_ref(table, column.get(), out),
         Expr::Paren(part) => add_enclosed(part, out),
         Expr::Call {
             function,
@@ -100,7 +104,8 @@ fn add_enclosed(part: &Boxed<Expr>, out: &mut Bytes) -> Result<(), NoMemory>
 /// Adds a list of expressions in brackets.
 #[cycle(print)]
 fn add_list(exprs: &Exprs, out: &mut Bytes) -> Result<(), NoMemory>
-    ensures ok { OnOk result (out.new ≡ out.old ++ text_of (bracketed (listed (map ink_of_expr exprs.now)))) }
+    ensures ok { OnOk result (out.new ≡ out.old
+        ++ text_of (bracketed (listed (map ink_of_expr exprs.now)))) }
     ensures grows { Grows out.old out.new }
 {
     put(b"(", out)?;
@@ -116,7 +121,7 @@ pub(crate) fn add_exprs(exprs: &Exprs, out: &mut Bytes) -> Result<(), NoMemory>
     ensures grows { Grows out.old out.new }
 {
     'exprs: for (i, expr) in exprs.as_slice().iter().enumerate() {
-        put(comma(i), out)?;
+        put(comma_before(i), out)?;
         add_expr(expr, out)?;
     }
     Ok(())
@@ -125,7 +130,8 @@ pub(crate) fn add_exprs(exprs: &Exprs, out: &mut Bytes) -> Result<(), NoMemory>
 /// Adds the links of a chain.
 #[cycle(print)]
 fn add_links(links: &Links, out: &mut Bytes) -> Result<(), NoMemory>
-    ensures ok { OnOk result (out.new ≡ out.old ++ text_of (flat_map (λ (link : Inks). link) (map ink_of_link links.now))) }
+    ensures ok { OnOk result (out.new ≡ out.old
+        ++ text_of (flat_map (λ (link : Inks). link) (map ink_of_link links.now))) }
     ensures grows { Grows out.old out.new }
 {
     'links: for link in links.as_slice() {
@@ -141,7 +147,7 @@ fn add_link(link: &Link, out: &mut Bytes) -> Result<(), NoMemory>
     ensures grows { Grows out.old out.new }
 {
     put(b" ", out)?;
-    put(bin_bytes(link.op), out)?;
+    put(operator_bytes(link.op), out)?;
     put(b" ", out)?;
     add_expr(&link.part, out)?;
     Ok(())
@@ -180,14 +186,15 @@ pub(crate) fn add_select(select: &Select, out: &mut Bytes) -> Result<(), NoMemor
 /// Adds what a SELECT shows.
 #[cycle(print)]
 fn add_fields(fields: &Fields, out: &mut Bytes) -> Result<(), NoMemory>
-    ensures ok { OnOk result (out.new ≡ out.old ++ text_of (ink_of_fields (map ink_of_field fields.now))) }
+    ensures ok { OnOk result (out.new ≡ out.old
+        ++ text_of (ink_of_fields (map ink_of_field fields.now))) }
     ensures grows { Grows out.old out.new }
 {
     if fields.is_empty() {
         return put(b"*", out);
     }
     'fields: for (i, field) in fields.as_slice().iter().enumerate() {
-        put(comma(i), out)?;
+        put(comma_before(i), out)?;
         add_field(field, out)?;
     }
     Ok(())
@@ -207,7 +214,8 @@ fn add_field(field: &Field, out: &mut Bytes) -> Result<(), NoMemory>
 /// Adds FROM and the record sets, where there are any.
 #[cycle(print)]
 fn add_sets(sets: &FromSets, out: &mut Bytes) -> Result<(), NoMemory>
-    ensures ok { OnOk result (out.new ≡ out.old ++ text_of (ink_of_sets (map ink_of_set sets.now))) }
+    ensures ok { OnOk result (out.new ≡ out.old
+        ++ text_of (ink_of_sets (map ink_of_set sets.now))) }
     ensures grows { Grows out.old out.new }
 {
     if sets.is_empty() {
@@ -215,7 +223,7 @@ fn add_sets(sets: &FromSets, out: &mut Bytes) -> Result<(), NoMemory>
     }
     put(b" FROM ", out)?;
     'sets: for (i, set) in sets.as_slice().iter().enumerate() {
-        put(comma(i), out)?;
+        put(comma_before(i), out)?;
         add_set(set, out)?;
     }
     Ok(())
@@ -253,7 +261,8 @@ fn add_source(source: &SetSource, out: &mut Bytes) -> Result<(), NoMemory>
 /// Adds a join, where there is one.
 #[cycle(print)]
 fn add_join(join: &Option<Boxed<Join>>, out: &mut Bytes) -> Result<(), NoMemory>
-    ensures ok { OnOk result (out.new ≡ out.old ++ text_of (ink_of_join (option_map ink_of_one_join join.now))) }
+    ensures ok { OnOk result (out.new ≡ out.old
+        ++ text_of (ink_of_join (option_map ink_of_one_join join.now))) }
     ensures grows { Grows out.old out.new }
 {
     let Some(join) = join else {
@@ -279,7 +288,8 @@ fn add_one_join(join: &Join, out: &mut Bytes) -> Result<(), NoMemory>
 /// Adds WHERE and its condition, where there is one.
 #[cycle(print)]
 pub(crate) fn add_filter(filter: &Option<Boxed<Expr>>, out: &mut Bytes) -> Result<(), NoMemory>
-    ensures ok { OnOk result (out.new ≡ out.old ++ text_of (behind w.Where (option_map ink_of_expr filter.now))) }
+    ensures ok { OnOk result (out.new ≡ out.old
+        ++ text_of (behind w.Where (ink_of_option filter.now))) }
     ensures grows { Grows out.old out.new }
 {
     let Some(filter) = filter else {
@@ -293,7 +303,8 @@ pub(crate) fn add_filter(filter: &Option<Boxed<Expr>>, out: &mut Bytes) -> Resul
 /// Adds GROUP BY and its columns, where there are any.
 #[cycle(print)]
 fn add_groups(groups: &Exprs, out: &mut Bytes) -> Result<(), NoMemory>
-    ensures ok { OnOk result (out.new ≡ out.old ++ text_of (ink_of_groups (map ink_of_expr groups.now))) }
+    ensures ok { OnOk result (out.new ≡ out.old
+        ++ text_of (ink_of_groups (map ink_of_expr groups.now))) }
     ensures grows { Grows out.old out.new }
 {
     if groups.is_empty() {
@@ -307,7 +318,8 @@ fn add_groups(groups: &Exprs, out: &mut Bytes) -> Result<(), NoMemory>
 /// Adds ORDER BY, its expressions and its direction, where there are any.
 #[cycle(print)]
 fn add_keys(keys: &Exprs, descending: bool, out: &mut Bytes) -> Result<(), NoMemory>
-    ensures ok { OnOk result (out.new ≡ out.old ++ text_of (ink_of_keys (map ink_of_expr keys.now) descending)) }
+    ensures ok { OnOk result (out.new ≡ out.old
+        ++ text_of (ink_of_keys (map ink_of_expr keys.now) descending)) }
     ensures grows { Grows out.old out.new }
 {
     if keys.is_empty() {
@@ -322,7 +334,8 @@ fn add_keys(keys: &Exprs, descending: bool, out: &mut Bytes) -> Result<(), NoMem
 /// Adds LIMIT and its expression, where there is one.
 #[cycle(print)]
 fn add_limit(limit: &Option<Boxed<Expr>>, out: &mut Bytes) -> Result<(), NoMemory>
-    ensures ok { OnOk result (out.new ≡ out.old ++ text_of (behind w.Limit (option_map ink_of_expr limit.now))) }
+    ensures ok { OnOk result (out.new ≡ out.old
+        ++ text_of (behind w.Limit (ink_of_option limit.now))) }
     ensures grows { Grows out.old out.new }
 {
     let Some(limit) = limit else {
@@ -336,7 +349,8 @@ fn add_limit(limit: &Option<Boxed<Expr>>, out: &mut Bytes) -> Result<(), NoMemor
 /// Adds OFFSET and its expression, where there is one.
 #[cycle(print)]
 fn add_offset(offset: &Option<Boxed<Expr>>, out: &mut Bytes) -> Result<(), NoMemory>
-    ensures ok { OnOk result (out.new ≡ out.old ++ text_of (behind w.Offset (option_map ink_of_expr offset.now))) }
+    ensures ok { OnOk result (out.new ≡ out.old
+        ++ text_of (behind w.Offset (ink_of_option offset.now))) }
     ensures grows { Grows out.old out.new }
 {
     let Some(offset) = offset else {
@@ -351,6 +365,10 @@ fn add_offset(offset: &Option<Boxed<Expr>>, out: &mut Bytes) -> Result<(), NoMem
 pub fn print_expr(expr: &Expr, out: &mut Bytes) -> Result<(), NoMemory>
     ensures ok { OnOk result (out.new ≡ out.old ++ text_of (ink_of_expr expr.now)) }
     ensures err { OnErr result (out.new ≡ out.old) }
+
+    // An expression that was read, once printed, is read as that very expression, but that
+    // `count(*)` is read as `count()`.
+    ensures read_back { ExprsReadBack }
 {
     let before = out.len();
     match add_expr(expr, out) {

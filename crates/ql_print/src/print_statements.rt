@@ -1,3 +1,4 @@
+//! Printing of statements, and of the parts of them that are stored by themselves.
 #![tactic(auto, using(crate::proofs::Growth::text_append))]
 
 ghost use Rattle.std.specs.Prelude.{◌≡◌, ◌++◌, ◌∷◌, [], OnOk, OnErr, Option, map, codes};
@@ -5,11 +6,12 @@ ghost use Rattle.ql_lex.specs.declared.words.Word.TheVariants as w;
 ghost use Rattle.ql_syntax.specs.Ink as spec;
 ghost use Rattle.ql_syntax.specs.Ink.{bracketed, keyword, listed, small, space, text_of, Grows};
 ghost use Rattle.ql_syntax.specs.Printing.{behind, word_of_kind};
-ghost use Rattle.ql_syntax.specs.ReadsBack.{ReadBackLaws};
+ghost use Rattle.ql_syntax.specs.ReadsBack.{PlainLaws, ReadBackLaws};
+ghost use Rattle.ql_syntax.specs.StoredParts.{ColumnsReadBack, ItemsReadBack, MadeReadBack, PartsReadBack};
 ghost use Rattle.ql_syntax.specs.StatementPrinting.{ink_of_assign, ink_of_column, ink_of_if_exists, ink_of_if_not_exists, ink_of_item, ink_of_names, ink_of_option, ink_of_row, ink_of_rows, ink_of_rule, ink_of_statement, ink_of_unique};
 
-use crate::print::{add_expr, add_exprs, add_select};
-use crate::spelled::{comma, kind_bytes, put};
+use crate::print::{add_expr, add_exprs, add_filter, add_select};
+use crate::spelling::{comma_before, kind_bytes, put};
 use ql_edge::{Boxed, Bytes, Name, Names, NoMemory};
 use ql_syntax::{
     Assign, Assigns, ColumnDef, ColumnDefs, Expr, ExprRows, Exprs, Item, RowSource, Statement,
@@ -31,7 +33,8 @@ fn if_not_exists_bytes(quiet: bool) -> &'static [u8]
 
 /// What CREATE INDEX begins with.
 fn create_index_bytes(unique: bool) -> &'static [u8]
-    ensures { result.now ≡ text_of (keyword w.Create ∷ space ∷ ink_of_unique unique ++ (keyword w.Index ∷ space ∷ [])) }
+    ensures { result.now ≡ text_of (keyword w.Create ∷ space
+        ∷ ink_of_unique unique ++ (keyword w.Index ∷ space ∷ [])) }
 {
     if unique {
         b"CREATE UNIQUE INDEX "
@@ -60,7 +63,8 @@ fn add_rule(not_null: bool, rule: &Option<Boxed<Expr>>, out: &mut Bytes) -> Resu
 
 /// Adds DEFAULT and its expression, where there is one.
 fn add_default(default: &Option<Boxed<Expr>>, out: &mut Bytes) -> Result<(), NoMemory>
-    ensures ok { OnOk result (out.new ≡ out.old ++ text_of (behind w.Default (ink_of_option default.now))) }
+    ensures ok { OnOk result (out.new ≡ out.old
+        ++ text_of (behind w.Default (ink_of_option default.now))) }
     ensures grows { Grows out.old out.new }
 {
     match default {
@@ -73,24 +77,11 @@ fn add_default(default: &Option<Boxed<Expr>>, out: &mut Bytes) -> Result<(), NoM
     }
 }
 
-/// Adds WHERE and its condition, where there is one.
-fn add_where(filter: &Option<Boxed<Expr>>, out: &mut Bytes) -> Result<(), NoMemory>
-    ensures ok { OnOk result (out.new ≡ out.old ++ text_of (behind w.Where (ink_of_option filter.now))) }
-    ensures grows { Grows out.old out.new }
-{
-    match filter {
-        Some(filter) => {
-            put(b" WHERE ", out)?;
-            add_expr(filter.get(), out)?;
-            Ok(())
-        }
-        None => Ok(()),
-    }
-}
-
 /// Adds a name, a blank and a kind.
 fn add_named_kind(column: &ColumnDef, out: &mut Bytes) -> Result<(), NoMemory>
-    ensures ok { OnOk result (out.new ≡ out.old ++ text_of (spec.name column.now.name ∷ space ∷ small (word_of_kind column.now.kind) ∷ [])) }
+    ensures ok { OnOk result (out.new ≡ out.old
+        ++ text_of (spec.name column.now.name ∷ space ∷ small (word_of_kind column.now.kind)
+        ∷ [])) }
     ensures grows { Grows out.old out.new }
 {
     put(column.name.as_slice(), out)?;
@@ -112,35 +103,39 @@ fn add_column(column: &ColumnDef, out: &mut Bytes) -> Result<(), NoMemory>
 
 /// Adds the columns of a table in brackets.
 fn add_columns(columns: &ColumnDefs, out: &mut Bytes) -> Result<(), NoMemory>
-    ensures ok { OnOk result (out.new ≡ out.old ++ text_of (bracketed (listed (map ink_of_column columns.now)))) }
+    ensures ok { OnOk result (out.new ≡ out.old
+        ++ text_of (bracketed (listed (map ink_of_column columns.now)))) }
     ensures grows { Grows out.old out.new }
 {
     put(b"(", out)?;
     'columns: for (i, column) in columns.as_slice().iter().enumerate() {
-        put(comma(i), out)?;
+        put(comma_before(i), out)?;
         add_column(column, out)?;
     }
     put(b")", out)?;
     Ok(())
 }
 
-/// Adds what an index orders by, in brackets.
+/// Adds what an index orders by, and memory may run out behind a front of it.
 fn add_item(item: &Item, out: &mut Bytes) -> Result<(), NoMemory>
-    ensures ok { OnOk result (out.new ≡ out.old ++ text_of (bracketed (ink_of_item item.now))) }
+    ensures ok { OnOk result (out.new ≡ out.old ++ text_of (ink_of_item item.now)) }
     ensures grows { Grows out.old out.new }
 {
     match item {
-        Item::Column(column) => {
-            put(b"(", out)?;
-            put(column.as_slice(), out)?;
-            put(b")", out)?;
-            Ok(())
-        }
-        Item::Id => {
-            put(b"(id())", out)?;
-            Ok(())
-        }
+        Item::Column(column) => put(column.as_slice(), out),
+        Item::Id => put(b"id()", out),
     }
+}
+
+/// Adds what an index orders by, in brackets.
+fn add_enclosed_item(item: &Item, out: &mut Bytes) -> Result<(), NoMemory>
+    ensures ok { OnOk result (out.new ≡ out.old ++ text_of (bracketed (ink_of_item item.now))) }
+    ensures grows { Grows out.old out.new }
+{
+    put(b"(", out)?;
+    add_item(item, out)?;
+    put(b")", out)?;
+    Ok(())
 }
 
 /// Adds the names of an INSERT in brackets, or nothing.
@@ -153,7 +148,7 @@ fn add_names(names: &Names, out: &mut Bytes) -> Result<(), NoMemory>
     }
     put(b" (", out)?;
     'names: for (i, name) in names.as_slice().iter().enumerate() {
-        put(comma(i), out)?;
+        put(comma_before(i), out)?;
         put(name.as_slice(), out)?;
     }
     put(b")", out)?;
@@ -177,7 +172,7 @@ fn add_rows(rows: &ExprRows, out: &mut Bytes) -> Result<(), NoMemory>
     ensures grows { Grows out.old out.new }
 {
     'rows: for (i, row) in rows.as_slice().iter().enumerate() {
-        put(comma(i), out)?;
+        put(comma_before(i), out)?;
         add_row(row, out)?;
     }
     Ok(())
@@ -214,11 +209,12 @@ fn add_assign(assign: &Assign, out: &mut Bytes) -> Result<(), NoMemory>
 
 /// Adds the assignments of an UPDATE.
 fn add_assigns(assigns: &Assigns, out: &mut Bytes) -> Result<(), NoMemory>
-    ensures ok { OnOk result (out.new ≡ out.old ++ text_of (listed (map ink_of_assign assigns.now))) }
+    ensures ok { OnOk result (out.new ≡ out.old
+        ++ text_of (listed (map ink_of_assign assigns.now))) }
     ensures grows { Grows out.old out.new }
 {
     'assigns: for (i, assign) in assigns.as_slice().iter().enumerate() {
-        put(comma(i), out)?;
+        put(comma_before(i), out)?;
         add_assign(assign, out)?;
     }
     Ok(())
@@ -231,7 +227,8 @@ fn add_create_table(
     columns: &ColumnDefs,
     out: &mut Bytes,
 ) -> Result<(), NoMemory>
-    ensures ok { OnOk result (out.new ≡ out.old ++ text_of (ink_of_statement (Statement.CreateTable quiet table.now columns.now))) }
+    ensures ok { OnOk result (out.new ≡ out.old
+        ++ text_of (ink_of_statement (Statement.CreateTable quiet table.now columns.now))) }
     ensures grows { Grows out.old out.new }
 {
     put(b"CREATE TABLE ", out)?;
@@ -244,7 +241,9 @@ fn add_create_table(
 
 /// Adds the names of an index and of its table.
 fn add_index_names(index: &Name, table: &Name, out: &mut Bytes) -> Result<(), NoMemory>
-    ensures ok { OnOk result (out.new ≡ out.old ++ text_of (spec.name index.now ∷ space ∷ keyword w.On ∷ space ∷ spec.name table.now ∷ space ∷ [])) }
+    ensures ok { OnOk result (out.new ≡ out.old
+        ++ text_of (spec.name index.now ∷ space ∷ keyword w.On ∷ space ∷ spec.name table.now
+        ∷ space ∷ [])) }
     ensures grows { Grows out.old out.new }
 {
     put(index.as_slice(), out)?;
@@ -263,19 +262,22 @@ fn add_create_index(
     item: &Item,
     out: &mut Bytes,
 ) -> Result<(), NoMemory>
-    ensures ok { OnOk result (out.new ≡ out.old ++ text_of (ink_of_statement (Statement.CreateIndex unique quiet index.now table.now item.now))) }
+    ensures ok { OnOk result (out.new ≡ out.old
+        ++ text_of (ink_of_statement
+        (Statement.CreateIndex unique quiet index.now table.now item.now))) }
     ensures grows { Grows out.old out.new }
 {
     put(create_index_bytes(unique), out)?;
     put(if_not_exists_bytes(quiet), out)?;
     add_index_names(index, table, out)?;
-    add_item(item, out)?;
+    add_enclosed_item(item, out)?;
     Ok(())
 }
 
 /// Adds DROP of a table or an index.
 fn add_drop(before: &[u8], quiet: bool, name: &Name, out: &mut Bytes) -> Result<(), NoMemory>
-    ensures ok { OnOk result (out.new ≡ out.old ++ (before.now ++ text_of (ink_of_if_exists quiet ++ (spec.name name.now ∷ [])))) }
+    ensures ok { OnOk result (out.new ≡ out.old
+        ++ (before.now ++ text_of (ink_of_if_exists quiet ++ (spec.name name.now ∷ [])))) }
     ensures grows { Grows out.old out.new }
 {
     put(before, out)?;
@@ -291,7 +293,8 @@ fn add_insert(
     source: &RowSource,
     out: &mut Bytes,
 ) -> Result<(), NoMemory>
-    ensures ok { OnOk result (out.new ≡ out.old ++ text_of (ink_of_statement (Statement.Insert table.now columns.now source.now))) }
+    ensures ok { OnOk result (out.new ≡ out.old
+        ++ text_of (ink_of_statement (Statement.Insert table.now columns.now source.now))) }
     ensures grows { Grows out.old out.new }
 {
     put(b"INSERT INTO ", out)?;
@@ -309,31 +312,34 @@ fn add_update(
     filter: &Option<Boxed<Expr>>,
     out: &mut Bytes,
 ) -> Result<(), NoMemory>
-    ensures ok { OnOk result (out.new ≡ out.old ++ text_of (ink_of_statement (Statement.Update table.now sets.now filter.now))) }
+    ensures ok { OnOk result (out.new ≡ out.old
+        ++ text_of (ink_of_statement (Statement.Update table.now sets.now filter.now))) }
     ensures grows { Grows out.old out.new }
 {
     put(b"UPDATE ", out)?;
     put(table.as_slice(), out)?;
     put(b" SET ", out)?;
     add_assigns(sets, out)?;
-    add_where(filter, out)?;
+    add_filter(filter, out)?;
     Ok(())
 }
 
 /// Adds DELETE.
 fn add_delete(table: &Name, filter: &Option<Boxed<Expr>>, out: &mut Bytes) -> Result<(), NoMemory>
-    ensures ok { OnOk result (out.new ≡ out.old ++ text_of (ink_of_statement (Statement.Delete table.now filter.now))) }
+    ensures ok { OnOk result (out.new ≡ out.old
+        ++ text_of (ink_of_statement (Statement.Delete table.now filter.now))) }
     ensures grows { Grows out.old out.new }
 {
     put(b"DELETE FROM ", out)?;
     put(table.as_slice(), out)?;
-    add_where(filter, out)?;
+    add_filter(filter, out)?;
     Ok(())
 }
 
 /// Adds ALTER TABLE .. ADD.
 fn add_add_column(table: &Name, column: &ColumnDef, out: &mut Bytes) -> Result<(), NoMemory>
-    ensures ok { OnOk result (out.new ≡ out.old ++ text_of (ink_of_statement (Statement.AddColumn table.now column.now))) }
+    ensures ok { OnOk result (out.new ≡ out.old
+        ++ text_of (ink_of_statement (Statement.AddColumn table.now column.now))) }
     ensures grows { Grows out.old out.new }
 {
     put(b"ALTER TABLE ", out)?;
@@ -345,7 +351,8 @@ fn add_add_column(table: &Name, column: &ColumnDef, out: &mut Bytes) -> Result<(
 
 /// Adds ALTER TABLE .. DROP COLUMN.
 fn add_drop_column(table: &Name, column: &Name, out: &mut Bytes) -> Result<(), NoMemory>
-    ensures ok { OnOk result (out.new ≡ out.old ++ text_of (ink_of_statement (Statement.DropColumn table.now column.now))) }
+    ensures ok { OnOk result (out.new ≡ out.old
+        ++ text_of (ink_of_statement (Statement.DropColumn table.now column.now))) }
     ensures grows { Grows out.old out.new }
 {
     put(b"ALTER TABLE ", out)?;
@@ -357,7 +364,8 @@ fn add_drop_column(table: &Name, column: &Name, out: &mut Bytes) -> Result<(), N
 
 /// Adds TRUNCATE TABLE.
 fn add_truncate(table: &Name, out: &mut Bytes) -> Result<(), NoMemory>
-    ensures ok { OnOk result (out.new ≡ out.old ++ text_of (ink_of_statement (Statement.Truncate table.now))) }
+    ensures ok { OnOk result (out.new ≡ out.old
+        ++ text_of (ink_of_statement (Statement.Truncate table.now))) }
     ensures grows { Grows out.old out.new }
 {
     put(b"TRUNCATE TABLE ", out)?;
@@ -406,13 +414,61 @@ fn add_statement(statement: &Statement, out: &mut Bytes) -> Result<(), NoMemory>
     }
 }
 
+/// Adds a column of a table at the end of `out`. A refusal leaves `out` as before.
+pub fn print_column(column: &ColumnDef, out: &mut Bytes) -> Result<(), NoMemory>
+    ensures ok { OnOk result (out.new ≡ out.old ++ text_of (ink_of_column column.now)) }
+    ensures err { OnErr result (out.new ≡ out.old) }
+
+    // A column that was read, once printed, is read as that very column, but that `count(*)` is
+    // read as `count()`. So are its rule and its default, each printed by itself.
+    ensures read_back { ColumnsReadBack }
+{
+    let before = out.len();
+    match add_column(column, out) {
+        Ok(()) => Ok(()),
+        Err(fault) => {
+            out.truncate(before);
+            Err(fault)
+        }
+    }
+}
+
+/// Adds what an index orders by at the end of `out`, without brackets around it. A refusal leaves
+/// `out` as before.
+pub fn print_item(item: &Item, out: &mut Bytes) -> Result<(), NoMemory>
+    ensures ok { OnOk result (out.new ≡ out.old ++ text_of (ink_of_item item.now)) }
+    ensures err { OnErr result (out.new ≡ out.old) }
+
+    // What an index orders by, where it was read, is read as that again.
+    ensures read_back { ItemsReadBack }
+{
+    let before = out.len();
+    match add_item(item, out) {
+        Ok(()) => Ok(()),
+        Err(fault) => {
+            out.truncate(before);
+            Err(fault)
+        }
+    }
+}
+
 /// Adds a statement at the end of `out`, without a semicolon. A refusal leaves `out` as before.
 pub fn print_statement(statement: &Statement, out: &mut Bytes) -> Result<(), NoMemory>
     ensures ok { OnOk result (out.new ≡ out.old ++ text_of (ink_of_statement statement.now)) }
     ensures err { OnErr result (out.new ≡ out.old) }
 
-    // A statement that was read, once printed, is read as that very statement, but that `count(*)` is read as `count()`.
+    // A statement that was read, once printed, is read as that very statement, but that `count(*)`
+    // is read as `count()`.
     ensures read_back { ReadBackLaws }
+
+    // So is each part of it that is stored by itself, once it is printed by itself.
+    ensures parts { PartsReadBack }
+
+    // So is a statement that is put together from parts that were read.
+    ensures made { MadeReadBack }
+
+    // What is read back prints the same text, and is read back as itself.
+    ensures same_text { PlainLaws }
 {
     let before = out.len();
     match add_statement(statement, out) {

@@ -10,3 +10,4 @@ pub mod StatementPrinting
 pub mod ReadsBack
 pub mod Values
 pub mod Typing
+pub mod StoredParts

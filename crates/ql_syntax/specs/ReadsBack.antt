@@ -1,5 +1,5 @@
 -- What a printed statement is read as again: the same statement, with `count()` for `count(*)`.
-use Rattle.std.specs.Prelude.{ℕ, false, List, [], ◌∷◌, All, map, Option, Some, None, Ok}
+use Rattle.std.specs.Prelude.{◌≡◌, ℕ, false, List, [], ◌∷◌, All, map, Option, Some, None, Ok}
 use Rattle.ql_lex.specs.Tokens
 use Rattle.ql_lex.specs.declared.token.Token.{Token}
 use Rattle.ql_syntax.specs.declared.statement.Assign.{Assign}
@@ -21,7 +21,8 @@ use Rattle.ql_syntax.specs.declared.syntax.SetSource.{SetSource}
 use Rattle.ql_syntax.specs.declared.syntax.SetSource.TheVariants as source
 use Rattle.ql_syntax.specs.Ink.{text_of}
 use Rattle.ql_syntax.specs.Lexemes.{lexemes}
-use Rattle.ql_syntax.specs.StatementPrinting.{ink_of_statement}
+use Rattle.ql_syntax.specs.Printing.{ink_of_expr}
+use Rattle.ql_syntax.specs.StatementPrinting.{ink_of_column, ink_of_statement}
 use Rattle.ql_syntax.specs.Statements.{IsRead}
 
 -- an expression of one layer; only a call changes
@@ -149,3 +150,12 @@ pub record IsReadBack (statement : Statement) : Type 0 where
 -- whatever tokens are read as is read again from its printed text
 pub record ReadBackLaws : Type 0 where
   pub statements : (source : List ℕ) (tokens : List Token) (ss : List Statement) → Tokens.Reads source (Ok tokens) → IsRead (lexemes source tokens) ss → All IsReadBack ss
+
+-- what is read back prints the same text again, and is read back once more as itself
+pub record PlainLaws : Type 0 where
+  pub expr_text : (x : Expr) → ink_of_expr (plain_expr x) ≡ ink_of_expr x
+  pub expr_again : (x : Expr) → plain_expr (plain_expr x) ≡ plain_expr x
+  pub column_text : (x : ColumnDef) → ink_of_column (plain_column x) ≡ ink_of_column x
+  pub column_again : (x : ColumnDef) → plain_column (plain_column x) ≡ plain_column x
+  pub statement_text : (x : Statement) → ink_of_statement (plain_statement x) ≡ ink_of_statement x
+  pub statement_again : (x : Statement) → plain_statement (plain_statement x) ≡ plain_statement x

@@ -86,4 +86,4 @@ add_one_join-returns-clause-ok n c =
 pub add_sets-sets-preserved : goal.add_sets-sets-preserved
 add_sets-sets-preserved n c =
     let m = one_more comma ink_of_set c.args.sets.now c.sets.i c.set-item.result c.set-item.result (search rules) (c.set-item.is ∙ ap (λ x. get_or x c.sets.i c.set-item.result) c.as_slice-set-items.ensures) in
-    rw (c.in_ok-add_set.ensures.ok, c.in_ok-put-2.ensures.ok, c.sets.invariant, c.comma.ensures, m) (simp append_assoc)
+    rw (c.in_ok-add_set.ensures.ok, c.in_ok-put-2.ensures.ok, c.sets.invariant, c.comma_before.ensures, m) (simp append_assoc)

@@ -8,7 +8,7 @@ use Rattle.ql_print.proofs.print_statements.add_names.Goals as goal
 pub names-preserved : goal.names-preserved
 names-preserved c =
     let m = one_more comma (λ (x : List ℕ). name x ∷ []) c.args.names.now c.names.i c.name-item.result c.name-item.result (search rules) (c.name-item.is ∙ ap (λ x. get_or x c.names.i c.name-item.result) c.as_slice-name-items.ensures) in
-    rw (c.in_ok-put-3.ensures.ok, c.as_slice.ensures.value, c.in_ok-put-2.ensures.ok, c.names.invariant, c.comma.ensures, m) (simp (append_assoc, append-nil))
+    rw (c.in_ok-put-3.ensures.ok, c.as_slice.ensures.value, c.in_ok-put-2.ensures.ok, c.names.invariant, c.comma_before.ensures, m) (simp (append_assoc, append-nil))
 
 pub returns-clause-ok : goal.returns-clause-ok
 returns-clause-ok c =

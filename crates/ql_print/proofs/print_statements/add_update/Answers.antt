@@ -10,7 +10,7 @@ use Rattle.ql_print.proofs.print_statements.add_update.Goals as goal
 pub returns-clause-ok : goal.returns-clause-ok
 returns-clause-ok c =
     rw (
-      c.in_ok-add_where.ensures.ok,
+      c.in_ok-add_filter.ensures.ok,
       c.in_ok-add_assigns.ensures.ok,
       c.in_ok-put-3.ensures.ok,
       c.in_ok-put-2.ensures.ok,
@@ -22,4 +22,4 @@ returns-clause-ok c =
 
 pub returns-clause-grows : goal.returns-clause-grows
 returns-clause-grows c =
-    grow_on c.put.ensures.grows (grow_on c.put-2.ensures.grows (grow_on c.put-3.ensures.grows (grow_on c.add_assigns.ensures.grows c.add_where.ensures.grows)))
+    grow_on c.put.ensures.grows (grow_on c.put-2.ensures.grows (grow_on c.put-3.ensures.grows (grow_on c.add_assigns.ensures.grows c.add_filter.ensures.grows)))

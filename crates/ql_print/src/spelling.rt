@@ -1,3 +1,4 @@
+//! How operators, kinds, functions and keywords are spelled, and the smallest printed pieces.
 ghost use Rattle.std.specs.Prelude.{◌≡◌, ◌++◌, ◌∷◌, [], OnOk, List};
 ghost use Rattle.ql_lex.specs.declared.words.Word.TheVariants as w;
 ghost use Rattle.ql_syntax.specs.Ink as spec;
@@ -17,7 +18,7 @@ pub(crate) fn put(bytes: &[u8], out: &mut Bytes) -> Result<(), NoMemory>
 }
 
 /// An operator between two parts.
-pub(crate) fn bin_bytes(op: BinOp) -> &'static [u8]
+pub fn operator_bytes(op: BinOp) -> &'static [u8]
     ensures { result.now ≡ bytes_of (ink_of_bin op) }
 {
     match op {
@@ -45,7 +46,7 @@ pub(crate) fn bin_bytes(op: BinOp) -> &'static [u8]
 }
 
 /// An operator before a part.
-pub(crate) fn un_bytes(op: UnOp) -> &'static [u8]
+pub fn prefix_bytes(op: UnOp) -> &'static [u8]
     ensures { result.now ≡ bytes_of (ink_of_un op) }
 {
     match op {
@@ -103,7 +104,9 @@ pub(crate) fn truth_bytes(truth: bool) -> &'static [u8]
 
 /// What stands before the record set of a join.
 pub(crate) fn join_bytes(side: Side) -> &'static [u8]
-    ensures { result.now ≡ text_of (space ∷ keyword (word_of_side side) ∷ space ∷ keyword w.Outer ∷ space ∷ keyword w.Join ∷ space ∷ []) }
+    ensures { result.now ≡ text_of (space ∷ keyword (word_of_side side) ∷ space
+        ∷ keyword w.Outer ∷ space
+        ∷ keyword w.Join ∷ space ∷ []) }
 {
     match side {
         Side::Left => b" LEFT OUTER JOIN ",
@@ -146,20 +149,21 @@ pub(crate) fn between_bytes(not: bool) -> &'static [u8]
 
 /// What stands behind a part that is compared with NULL.
 pub(crate) fn null_bytes(not: bool) -> &'static [u8]
-    ensures { result.now ≡ text_of (space ∷ keyword w.Is ∷ space ∷ ink_of_not not ++ (keyword w.Null ∷ [])) }
+    ensures { result.now ≡ text_of (space ∷ keyword w.Is ∷ space
+        ∷ ink_of_not not ++ (keyword w.Null ∷ [])) }
 {
     if not { b" IS NOT NULL" } else { b" IS NULL" }
 }
 
 /// What stands before an operator with this number.
-fn blank(index: usize) -> &'static [u8]
+fn blank_before(index: usize) -> &'static [u8]
     ensures { result.now ≡ text_of (gap_before (space ∷ []) index) }
 {
     if index == 0 { b"" } else { b" " }
 }
 
 /// What stands before a part of a list with this number.
-pub(crate) fn comma(index: usize) -> &'static [u8]
+pub(crate) fn comma_before(index: usize) -> &'static [u8]
     ensures { result.now ≡ text_of (gap_before spec.comma index) }
 {
     if index == 0 { b"" } else { b", " }
@@ -181,7 +185,7 @@ pub(crate) fn add_alias(alias: &Option<Boxed<Name>>, out: &mut Bytes) -> Result<
 }
 
 /// Adds a column, with its table where that is written.
-pub(crate) fn add_ref(
+pub(crate) fn add_column_ref(
     table: &Option<Boxed<Name>>,
     column: &Name,
     out: &mut Bytes,
@@ -206,8 +210,8 @@ pub(crate) fn add_ops(ops: &[UnOp], out: &mut Bytes) -> Result<(), NoMemory>
     ensures grows { Grows out.old out.new }
 {
     'ops: for (i, op) in ops.iter().enumerate() {
-        put(blank(i), out)?;
-        put(un_bytes(*op), out)?;
+        put(blank_before(i), out)?;
+        put(prefix_bytes(*op), out)?;
     }
     Ok(())
 }
