@@ -1,19 +1,20 @@
-//! Copies of places, and conversions.
+//! Values of places, and conversions.
 
+ghost use Rattle.std.specs.Prelude.{◌≡◌};
 ghost use Rattle.ql_syntax.specs.Values as spec;
 ghost use Rattle.ql_eval.specs.Gives.{Gives};
 
 use crate::EvalFault;
-use ql_value::{Kind, Value, convert, copy_value, fit};
+use ql_value::{Kind, Value, convert, fit};
 use std::alloc::Global;
 
-/// A copy of the value at a place of the row.
-pub(crate) fn copy_place(alloc: Global, row: &[Value], at: u32) -> Result<Value, EvalFault>
+/// The value at a place of the row.
+pub(crate) fn value_at(row: &[Value], at: u32) -> &Value
     requires { spec.IsMeant (spec.at_place row.now at) }
-    ensures { Gives (spec.at_place row.now at) result }
+    ensures { spec.at_place row.now at ≡ spec.gives result.now }
 {
     let index = at as usize;
-    Ok(copy_value(alloc, &row[index])?)
+    &row[index]
 }
 
 /// A value as one of a kind. Strings and blobs are moved, not copied.
