@@ -19,9 +19,9 @@ use ql_syntax::{Function, Typed, TypedLink, TypedLinks, Typeds};
 use ql_value::{BinOp, Value};
 use std::alloc::Global;
 
-/// The value of an expression at a row, or the first refusal in the order of evaluation. Some types that fit the
-/// values of the row must give the expression a type; its value is then one of that type. Only strings and blobs take
-/// memory.
+/// The value of an expression at a row, or the first refusal in the order of evaluation. Some
+/// types that fit the values of the row must give the expression a type; its value is then one of
+/// that type. Only strings and blobs take memory.
 pub fn eval(alloc: Global, expr: &Typed, row: &[Value]) -> Result<Value, EvalFault>
     requires { WellTyped row.now expr.now }
     ensures value { Gives (spec.value_at row.now expr.now) result }
@@ -86,7 +86,8 @@ fn evaluate_chain<'a>(
     first: Operand<'a>,
 ) -> Result<Operand<'a>, EvalFault>
     requires { spec.IsMeant (spec.chained (value_of first) (spec.steps_at row.now links.now)) }
-    ensures { GivesOperand (spec.chained (value_of first.entry) (spec.steps_at row.now links.now)) result }
+    ensures { let steps = spec.steps_at row.now links.now in
+        GivesOperand (spec.chained (value_of first.entry) steps) result }
 {
     let mut left = first;
     'links: for link in links.as_slice() {

@@ -13,7 +13,8 @@ use ql_edge::Bytes;
 use ql_value::{BinOp, Value, arith};
 use std::alloc::Global;
 
-/// An operator on the values of its two sides. Only `+` takes the left one, since a string grows in place.
+/// An operator on the values of its two sides. Only `+` takes the left one, since a string grows
+/// in place.
 pub(crate) fn operate(
     alloc: Global,
     op: BinOp,

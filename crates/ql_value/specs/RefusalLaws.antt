@@ -5,7 +5,9 @@ use Rattle.ql_value.specs.Refusal.{refusal_word}
 
 -- the numbers of refusals
 abbrev pub refusal_numbers : List ℕ
-refusal_numbers = NO_TABLE ∷ NO_COLUMN ∷ AMBIGUOUS ∷ EXISTS ∷ TYPE ∷ COUNT ∷ CONSTANT_RANGE ∷ AGGREGATE ∷ LATER ∷ DIVIDE ∷ RANGE ∷ NEGATIVE_COUNT ∷ []
+refusal_numbers =
+    NO_TABLE ∷ NO_COLUMN ∷ AMBIGUOUS ∷ EXISTS ∷ TYPE ∷ COUNT ∷ CONSTANT_RANGE ∷ AGGREGATE ∷ LATER
+    ∷ DIVIDE ∷ RANGE ∷ NEGATIVE_COUNT ∷ []
 
 -- each of the numbers has a word, no two have the same, and no other number has one
 pub record RefusalLaws : Type 0 where

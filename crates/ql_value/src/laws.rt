@@ -22,7 +22,8 @@ pub fn kind_laws()
     ensures { KindLaws }
 {}
 
-/// Each number of a refusal has a word, no two have the same, and no other number has one. The call does nothing.
+/// Each number of a refusal has a word, no two have the same, and no other number has one. The
+/// call does nothing.
 pub fn refusal_laws()
     ensures { RefusalLaws }
 {}
