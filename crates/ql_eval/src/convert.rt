@@ -1,21 +1,24 @@
+//! Values of places, and conversions.
+
+ghost use Rattle.std.specs.Prelude.{◌≡◌};
 ghost use Rattle.ql_syntax.specs.Values as spec;
 ghost use Rattle.ql_eval.specs.Gives.{Gives};
 
 use crate::EvalFault;
-use ql_value::{Kind, Value, convert, copy_value, fit};
+use ql_value::{Kind, Value, convert, fit};
 use std::alloc::Global;
 
-/// A copy of the value at a place of the row.
-pub(crate) fn placed(alloc: Global, row: &[Value], at: u32) -> Result<Value, EvalFault>
+/// The value at a place of the row.
+pub(crate) fn value_at(row: &[Value], at: u32) -> &Value
     requires { spec.IsMeant (spec.at_place row.now at) }
-    ensures { Gives (spec.at_place row.now at) result }
+    ensures { spec.at_place row.now at ≡ spec.gives result.now }
 {
     let index = at as usize;
-    Ok(copy_value(alloc, &row[index])?)
+    &row[index]
 }
 
-/// A conversion of a value. Strings and blobs are moved, not copied.
-pub(crate) fn converted(alloc: Global, kind: Kind, value: Value) -> Result<Value, EvalFault>
+/// A value as one of a kind. Strings and blobs are moved, not copied.
+pub(crate) fn convert_value(alloc: Global, kind: Kind, value: Value) -> Result<Value, EvalFault>
     requires { spec.IsMeant (spec.convert_to kind value) }
     ensures { Gives (spec.convert_to kind value) result }
 {
@@ -30,7 +33,7 @@ pub(crate) fn converted(alloc: Global, kind: Kind, value: Value) -> Result<Value
 }
 
 /// A number as one of an integer kind that it met.
-pub(crate) fn narrowed(kind: Kind, value: Value) -> Result<Value, EvalFault>
+pub(crate) fn narrow(kind: Kind, value: Value) -> Result<Value, EvalFault>
     requires { spec.IsMeant (spec.narrow_to kind value) }
     ensures { Gives (spec.narrow_to kind value) result }
 {

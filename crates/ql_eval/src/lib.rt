@@ -7,6 +7,7 @@ mod evaluation;
 mod fault;
 mod function;
 mod logic;
+mod operand;
 mod operate;
 mod prefix;
 

@@ -1,33 +1,48 @@
+//! Operators between two values.
+
 ghost use Rattle.ql_value.specs.Arith.{IsArithmetic};
 ghost use Rattle.ql_syntax.specs.Values as spec;
 ghost use Rattle.ql_eval.specs.Gives.{Gives};
+ghost use Rattle.ql_eval.specs.Operand.{value_of};
 
 use crate::EvalFault;
 use crate::compare::comparison;
 use crate::logic::{both, either};
+use crate::operand::Operand;
 use ql_edge::Bytes;
 use ql_value::{BinOp, Value, arith};
 use std::alloc::Global;
 
-/// An operator on the values of its two sides.
+/// An operator on the values of its two sides. Only `+` takes the left one, since a string grows
+/// in place.
 pub(crate) fn operate(
     alloc: Global,
     op: BinOp,
-    left: Value,
+    left: Operand<'_>,
     right: &Value,
 ) -> Result<Value, EvalFault>
-    requires { spec.IsMeant (spec.operated op left right.now) }
-    ensures { Gives (spec.operated op left right.now) result }
+    requires { spec.IsMeant (spec.operated op (value_of left) right.now) }
+    ensures { Gives (spec.operated op (value_of left.entry) right.now) result }
+{
+    match op {
+        BinOp::Add => add(alloc, left.into_value(alloc)?, right),
+        _ => operate_values(alloc, op, left.value(), right),
+    }
+}
+
+/// An operator on two values, neither of which it takes.
+fn operate_values(alloc: Global, op: BinOp, left: &Value, right: &Value) -> Result<Value, EvalFault>
+    requires { spec.IsMeant (spec.operated op left.now right.now) }
+    ensures { Gives (spec.operated op left.now right.now) result }
 {
     match op {
         BinOp::Eq | BinOp::Ne | BinOp::Lt | BinOp::Le | BinOp::Gt | BinOp::Ge => {
-            Ok(comparison(op, &left, right))
+            Ok(comparison(op, left, right))
         }
-        BinOp::Both => Ok(both(&left, right)),
-        BinOp::Either => Ok(either(&left, right)),
+        BinOp::Both => Ok(both(left, right)),
+        BinOp::Either => Ok(either(left, right)),
         BinOp::Like => unreachable!(),
-        BinOp::Add => add(alloc, left, right),
-        _ => calculate(alloc, op, &left, right),
+        _ => calculate(alloc, op, left, right),
     }
 }
 
