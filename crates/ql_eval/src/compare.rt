@@ -1,3 +1,5 @@
+//! Comparisons of two values.
+
 ghost use Rattle.std.specs.Prelude.{◌≡◌};
 ghost use Rattle.ql_syntax.specs.Values as spec;
 

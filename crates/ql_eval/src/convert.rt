@@ -1,3 +1,5 @@
+//! Copies of places, and conversions.
+
 ghost use Rattle.ql_syntax.specs.Values as spec;
 ghost use Rattle.ql_eval.specs.Gives.{Gives};
 
@@ -6,7 +8,7 @@ use ql_value::{Kind, Value, convert, copy_value, fit};
 use std::alloc::Global;
 
 /// A copy of the value at a place of the row.
-pub(crate) fn placed(alloc: Global, row: &[Value], at: u32) -> Result<Value, EvalFault>
+pub(crate) fn copy_place(alloc: Global, row: &[Value], at: u32) -> Result<Value, EvalFault>
     requires { spec.IsMeant (spec.at_place row.now at) }
     ensures { Gives (spec.at_place row.now at) result }
 {
@@ -14,8 +16,8 @@ pub(crate) fn placed(alloc: Global, row: &[Value], at: u32) -> Result<Value, Eva
     Ok(copy_value(alloc, &row[index])?)
 }
 
-/// A conversion of a value. Strings and blobs are moved, not copied.
-pub(crate) fn converted(alloc: Global, kind: Kind, value: Value) -> Result<Value, EvalFault>
+/// A value as one of a kind. Strings and blobs are moved, not copied.
+pub(crate) fn convert_value(alloc: Global, kind: Kind, value: Value) -> Result<Value, EvalFault>
     requires { spec.IsMeant (spec.convert_to kind value) }
     ensures { Gives (spec.convert_to kind value) result }
 {
@@ -30,7 +32,7 @@ pub(crate) fn converted(alloc: Global, kind: Kind, value: Value) -> Result<Value
 }
 
 /// A number as one of an integer kind that it met.
-pub(crate) fn narrowed(kind: Kind, value: Value) -> Result<Value, EvalFault>
+pub(crate) fn narrow(kind: Kind, value: Value) -> Result<Value, EvalFault>
     requires { spec.IsMeant (spec.narrow_to kind value) }
     ensures { Gives (spec.narrow_to kind value) result }
 {

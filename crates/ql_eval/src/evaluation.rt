@@ -1,3 +1,5 @@
+//! The value of an expression.
+
 ghost use Rattle.std.specs.Prelude.{List, IfOk};
 ghost use Rattle.ql_syntax.specs.Typing.{Typing, FitsRow, HasType, IsTyped, WellTyped, type_of};
 ghost use Rattle.ql_syntax.specs.Values as spec;
@@ -6,11 +8,11 @@ ghost use Rattle.ql_eval.specs.Question.{test_of};
 
 use crate::EvalFault;
 use crate::compare::{comparison, is_null};
-use crate::convert::{converted, narrowed, placed};
-use crate::function::{Question, asked, length_of};
+use crate::convert::{convert_value, copy_place, narrow};
+use crate::function::{Question, answer, length_of};
 use crate::logic::{decides, either};
 use crate::operate::operate;
-use crate::prefix::prefixed;
+use crate::prefix::apply_prefixes;
 use ql_syntax::{Function, Typed, TypedLink, TypedLinks, Typeds};
 use ql_value::{BinOp, Value, copy_value};
 use std::alloc::Global;
@@ -23,42 +25,42 @@ pub fn eval(alloc: Global, expr: &Typed, row: &[Value]) -> Result<Value, EvalFau
     ensures value { Gives (spec.value_at row.now expr.now) result }
     ensures kind { (types : List Typing) → FitsRow types row.now → IsTyped (type_of types expr.now) → IfOk result (HasType (type_of types expr.now)) }
 {
-    evaluated(alloc, expr, row)
+    evaluate(alloc, expr, row)
 }
 
 /// What an expression comes to at a row.
 #[cycle(eval)]
-fn evaluated(alloc: Global, expr: &Typed, row: &[Value]) -> Result<Value, EvalFault>
+fn evaluate(alloc: Global, expr: &Typed, row: &[Value]) -> Result<Value, EvalFault>
     requires { spec.IsMeant (spec.value_at row.now expr.now) }
     ensures { Gives (spec.value_at row.now expr.now) result }
 {
     match expr {
         Typed::Constant(value) => Ok(copy_value(alloc, value)?),
-        Typed::Place { at } => placed(alloc, row, *at),
+        Typed::Place { at } => copy_place(alloc, row, *at),
         Typed::Chain { first, rest } => {
-            let first = evaluated(alloc, first.get(), row)?;
-            chained(alloc, rest, row, first)
+            let first = evaluate(alloc, first.get(), row)?;
+            evaluate_chain(alloc, rest, row, first)
         }
         Typed::Unary { ops, part } => {
-            let value = evaluated(alloc, part.get(), row)?;
-            prefixed(alloc, ops, value)
+            let value = evaluate(alloc, part.get(), row)?;
+            apply_prefixes(alloc, ops, value)
         }
         Typed::Convert { kind, part } => {
-            let value = evaluated(alloc, part.get(), row)?;
-            converted(alloc, *kind, value)
+            let value = evaluate(alloc, part.get(), row)?;
+            convert_value(alloc, *kind, value)
         }
         Typed::Narrow { kind, part } => {
-            let value = evaluated(alloc, part.get(), row)?;
-            narrowed(*kind, value)
+            let value = evaluate(alloc, part.get(), row)?;
+            narrow(*kind, value)
         }
-        Typed::Call { function, parts } => called(alloc, *function, parts, row),
+        Typed::Call { function, parts } => call(alloc, *function, parts, row),
         Typed::Aggregate { .. } => unreachable!(),
         Typed::IsIn { part, list } => {
-            let value = evaluated(alloc, part.get(), row)?;
+            let value = evaluate(alloc, part.get(), row)?;
             is_in(alloc, list, row, &value)
         }
         Typed::IsNull { part } => {
-            let value = evaluated(alloc, part.get(), row)?;
+            let value = evaluate(alloc, part.get(), row)?;
             Ok(Value::Bool(is_null(&value)))
         }
     }
@@ -66,7 +68,7 @@ fn evaluated(alloc: Global, expr: &Typed, row: &[Value]) -> Result<Value, EvalFa
 
 /// The links of a chain behind a value.
 #[cycle(eval)]
-fn chained(
+fn evaluate_chain(
     alloc: Global,
     links: &TypedLinks,
     row: &[Value],
@@ -77,21 +79,26 @@ fn chained(
 {
     let mut left = first;
     'links: for link in links.as_slice() {
-        left = linked(alloc, link, row, left)?;
+        left = evaluate_link(alloc, link, row, left)?;
     }
     Ok(left)
 }
 
 /// A link behind the value of its left side.
 #[cycle(eval)]
-fn linked(alloc: Global, link: &TypedLink, row: &[Value], left: Value) -> Result<Value, EvalFault>
+fn evaluate_link(
+    alloc: Global,
+    link: &TypedLink,
+    row: &[Value],
+    left: Value,
+) -> Result<Value, EvalFault>
     requires { spec.IsMeant (spec.linked (spec.step_at row.now link.now).op left (spec.step_at row.now link.now).part) }
     ensures { Gives (spec.linked (spec.step_at row.now link.now).op left (spec.step_at row.now link.now).part) result }
 {
     if decides(link.op, &left) {
         return Ok(left);
     }
-    let right = evaluated(alloc, &link.part, row)?;
+    let right = evaluate(alloc, &link.part, row)?;
     operate(alloc, link.op, left, &right)
 }
 
@@ -123,14 +130,14 @@ fn or_equal(
     if decides(BinOp::Either, &found) {
         return Ok(found);
     }
-    let other = evaluated(alloc, part, row)?;
+    let other = evaluate(alloc, part, row)?;
     let same = comparison(BinOp::Eq, value, &other);
     Ok(either(&found, &same))
 }
 
 /// The call of a function.
 #[cycle(eval)]
-fn called(
+fn call(
     alloc: Global,
     function: Function,
     parts: &Typeds,
@@ -140,49 +147,44 @@ fn called(
     ensures { Gives (spec.called function (spec.values_at row.now parts.now)) result }
 {
     match function {
-        Function::Len => measured(alloc, parts, row),
-        Function::Contains => asked_of(alloc, Question::Contains, parts, row),
-        Function::HasPrefix => asked_of(alloc, Question::HasPrefix, parts, row),
-        Function::HasSuffix => asked_of(alloc, Question::HasSuffix, parts, row),
-        Function::Coalesce => coalesced(alloc, parts, row),
+        Function::Len => measure(alloc, parts, row),
+        Function::Contains => ask(alloc, Question::Contains, parts, row),
+        Function::HasPrefix => ask(alloc, Question::HasPrefix, parts, row),
+        Function::HasSuffix => ask(alloc, Question::HasSuffix, parts, row),
+        Function::Coalesce => coalesce(alloc, parts, row),
         _ => unreachable!(),
     }
 }
 
 /// The length of a part.
 #[cycle(eval)]
-fn measured(alloc: Global, parts: &Typeds, row: &[Value]) -> Result<Value, EvalFault>
+fn measure(alloc: Global, parts: &Typeds, row: &[Value]) -> Result<Value, EvalFault>
     requires { spec.IsMeant (spec.measured (spec.values_at row.now parts.now)) }
     ensures { Gives (spec.measured (spec.values_at row.now parts.now)) result }
 {
-    let part = evaluated(alloc, &parts.as_slice()[0], row)?;
+    let part = evaluate(alloc, &parts.as_slice()[0], row)?;
     length_of(alloc, &part)
 }
 
 /// A question to two parts.
 #[cycle(eval)]
-fn asked_of(
-    alloc: Global,
-    question: Question,
-    parts: &Typeds,
-    row: &[Value],
-) -> Result<Value, EvalFault>
+fn ask(alloc: Global, question: Question, parts: &Typeds, row: &[Value]) -> Result<Value, EvalFault>
     requires { spec.IsMeant (spec.asked_of (test_of question) (spec.values_at row.now parts.now)) }
     ensures { Gives (spec.asked_of (test_of question) (spec.values_at row.now parts.now)) result }
 {
-    let left = evaluated(alloc, &parts.as_slice()[0], row)?;
-    let right = evaluated(alloc, &parts.as_slice()[1], row)?;
-    Ok(asked(question, &left, &right))
+    let left = evaluate(alloc, &parts.as_slice()[0], row)?;
+    let right = evaluate(alloc, &parts.as_slice()[1], row)?;
+    Ok(answer(question, &left, &right))
 }
 
 /// The first value that is not NULL.
 #[cycle(eval)]
-fn coalesced(alloc: Global, parts: &Typeds, row: &[Value]) -> Result<Value, EvalFault>
+fn coalesce(alloc: Global, parts: &Typeds, row: &[Value]) -> Result<Value, EvalFault>
     requires { spec.IsMeant (spec.coalesced (spec.values_at row.now parts.now)) }
     ensures { Gives (spec.coalesced (spec.values_at row.now parts.now)) result }
 {
     'parts: for part in parts.as_slice() {
-        let value = evaluated(alloc, part, row)?;
+        let value = evaluate(alloc, part, row)?;
         if !is_null(&value) {
             return Ok(value);
         }

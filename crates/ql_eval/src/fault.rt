@@ -1,3 +1,5 @@
+//! Why an expression has no value.
+
 ghost use Rattle.std.specs.Prelude.{◌≡◌};
 ghost use Rattle.ql_eval.specs.Gives.{fault_of};
 ghost use Rattle.ql_eval.specs.declared.fault.EvalFault.TheVariants as variant;

@@ -1,3 +1,5 @@
+//! The functions that expressions call.
+
 ghost use Rattle.std.specs.Prelude.{◌≡◌};
 ghost use Rattle.ql_syntax.specs.Values as spec;
 ghost use Rattle.ql_eval.specs.Gives.{Gives};
@@ -68,8 +70,8 @@ fn test(question: Question, bytes: &[u8], part: &[u8]) -> bool
     }
 }
 
-/// A question to two values.
-pub(crate) fn asked(question: Question, left: &Value, right: &Value) -> Value
+/// The answer to a question to two values.
+pub(crate) fn answer(question: Question, left: &Value, right: &Value) -> Value
     requires { spec.IsMeant (spec.asked (test_of question) left.now right.now) }
     ensures { spec.asked (test_of question) left.now right.now ≡ spec.gives result }
 {

@@ -1,3 +1,5 @@
+//! Truths by Kleene's tables.
+
 ghost use Rattle.std.specs.Prelude.{◌≡◌};
 ghost use Rattle.ql_syntax.specs.Values as spec;
 

@@ -1,3 +1,5 @@
+//! Operators between two values.
+
 ghost use Rattle.ql_value.specs.Arith.{IsArithmetic};
 ghost use Rattle.ql_syntax.specs.Values as spec;
 ghost use Rattle.ql_eval.specs.Gives.{Gives};

@@ -1,4 +1,5 @@
-ghost use Rattle.std.specs.Prelude.{◌≡◌, [], ◌∷◌, ◌++◌, MatchOption};
+//! Operators before a value.
+
 ghost use Rattle.ql_value.specs.Arith.{IsArithmetic, on_numbers};
 ghost use Rattle.ql_syntax.specs.Values as spec;
 ghost use Rattle.ql_eval.specs.Gives.{Gives};
@@ -8,58 +9,47 @@ use ql_value::{BinOp, Kind, UnOp, UnOps, Value, arith};
 use std::alloc::Global;
 
 /// Operators before a value. The last one comes first.
-pub(crate) fn prefixed(alloc: Global, ops: &UnOps, value: Value) -> Result<Value, EvalFault>
+pub(crate) fn apply_prefixes(alloc: Global, ops: &UnOps, value: Value) -> Result<Value, EvalFault>
     requires { spec.IsMeant (spec.prefixed ops.now value) }
     ensures { Gives (spec.prefixed ops.now value) result }
 {
     let mut value = value;
     let mut left = ops.as_slice();
-    'ops: while let Some((op, front)) = last(left) {
-        value = prefix(alloc, op, value)?;
+    'ops: while let Some((op, front)) = left.split_last() {
+        value = apply_prefix(alloc, *op, value)?;
         left = front;
     }
     Ok(value)
 }
 
-/// The last operator, and those before it.
-fn last(ops: &[UnOp]) -> Option<(UnOp, &[UnOp])>
-    ensures { MatchOption result (ops.now ≡ []) (λ pair. ops.now ≡ pair.1.now ++ pair.0 ∷ []) }
-{
-    if ops.is_empty() {
-        return None;
-    }
-    let end = ops.len() - 1;
-    Some((ops[end], &ops[..end]))
-}
-
 /// An operator before a value.
-fn prefix(alloc: Global, op: UnOp, value: Value) -> Result<Value, EvalFault>
+fn apply_prefix(alloc: Global, op: UnOp, value: Value) -> Result<Value, EvalFault>
     requires { spec.IsMeant (spec.prefix op value) }
     ensures { Gives (spec.prefix op value) result }
 {
     match value {
         Value::Null => Ok(Value::Null),
         Value::Bool(truth) => Ok(Value::Bool(!truth)),
-        Value::Int(kind, number) => prefix_number(alloc, op, kind, number),
+        Value::Int(kind, number) => apply_to_number(alloc, op, kind, number),
         _ => unreachable!(),
     }
 }
 
 /// An operator before a number.
-fn prefix_number(alloc: Global, op: UnOp, kind: Kind, number: i128) -> Result<Value, EvalFault>
+fn apply_to_number(alloc: Global, op: UnOp, kind: Kind, number: i128) -> Result<Value, EvalFault>
     requires { spec.IsMeant (spec.prefix_number op kind number) }
     ensures { Gives (spec.prefix_number op kind number) result }
 {
     match op {
         UnOp::Plus => Ok(Value::Int(kind, number)),
-        UnOp::Minus => against(alloc, BinOp::Sub, kind, 0, number),
-        UnOp::Flip => against(alloc, BinOp::Xor, kind, -1, number),
+        UnOp::Minus => calculate_numbers(alloc, BinOp::Sub, kind, 0, number),
+        UnOp::Flip => calculate_numbers(alloc, BinOp::Xor, kind, -1, number),
         UnOp::Not => unreachable!(),
     }
 }
 
 /// An operator of arithmetic between two numbers of a kind.
-fn against(
+fn calculate_numbers(
     alloc: Global,
     op: BinOp,
     kind: Kind,

@@ -1,5 +1,5 @@
 -- What the operators of arithmetic give.
-use Rattle.std.specs.Prelude.{◌≡◌, ℕ, ◌-◌, ◌^◌, ℤ, pos, negsuc, ◌+ℤ◌, ◌-ℤ◌, ◌*ℤ◌, int_lt, int_div, int_rem, unsigned_abs, nat_lt, ◌==◌, bit_and, bit_or, bit_xor, ◌++◌, if◌then◌else◌, Result, Ok, Err}
+use Rattle.std.specs.Prelude.{ℕ, ◌-◌, ◌^◌, ℤ, pos, negsuc, ◌+ℤ◌, ◌-ℤ◌, ◌*ℤ◌, int_lt, int_div, int_rem, unsigned_abs, nat_lt, ◌==◌, bit_and, bit_or, bit_xor, ◌++◌, if◌then◌else◌, Option, None, Some, Result, Ok, Err}
 use Rattle.std.specs.Int.{int_div_euclid}
 use Rattle.ql_value.specs.declared.value.Kind.{Kind}
 use Rattle.ql_value.specs.declared.value.Value.{Value}
@@ -85,10 +85,10 @@ arith_of o (v.Int kind a) (v.Int _ b) = on_numbers o kind a b
 arith_of o (v.Text a) (v.Text b) = Ok (v.Text (a ++ b))
 arith_of o _ _ = Ok v.Null
 
--- the answer is this outcome, or memory ran out
-abbrev pub Gives : Result Value ValueFault → Result Value ValueFault → Type 0
-Gives outcome (Err fault.NoMemory) = Unit {0}
-Gives outcome answer = answer ≡ outcome
+-- the outcome that a fault stands for, and none for want of memory
+abbrev pub stands_for : ValueFault → Option (Result Value ValueFault)
+stands_for fault.NoMemory = None
+stands_for f = Some (Err f)
 
 -- the two are strings, the only values whose operators take memory
 abbrev pub AreTexts : Value → Value → Type 0

@@ -9,3 +9,4 @@ pub mod Order
 pub mod OrderLaws
 pub mod Print
 pub mod Refusal
+pub mod RefusalLaws

@@ -1,9 +1,11 @@
+//! The operators of arithmetic.
+
 ghost use Rattle.std.specs.Prelude.{◌≡◌, ◌≢◌, ◌^◌, ◌<◌, pos, ◌+ℤ◌, ◌-ℤ◌, ◌*ℤ◌, int_div, bit_and, bit_or, bit_xor, ◌++◌, IfOk};
 ghost use Rattle.std.specs.Int.{IsNonZero, w128, int_div_euclid};
 ghost use Rattle.ql_value.specs.Number.{width, residue, wrapped};
-ghost use Rattle.ql_value.specs.Arith.{IsArithmetic, AreOperands, AreTexts, Gives, arith_of, on_numbers, flipped};
+ghost use Rattle.ql_value.specs.Arith.{IsArithmetic, AreOperands, AreTexts, arith_of, stands_for, on_numbers, flipped};
+ghost use Rattle.ql_edge.specs.Answers.{Gives};
 
-use crate::value::copy_bytes;
 use crate::wrapping::{width_of, wrap};
 use crate::{BinOp, Kind, Value, ValueFault};
 use ql_edge::{Bytes, NoMemory};
@@ -12,29 +14,29 @@ use std::alloc::Global;
 /// An operator of arithmetic on two values. A NULL on either side gives NULL; memory is taken only to join strings.
 pub fn arith(alloc: Global, op: BinOp, left: &Value, right: &Value) -> Result<Value, ValueFault>
     requires { AreOperands op left.now right.now }
-    ensures value { Gives (arith_of op left.now right.now) result }
+    ensures value { Gives Ok stands_for (arith_of op left.now right.now) result }
     ensures memory { result ≡ Err ValueFault.NoMemory → AreTexts left.now right.now }
 {
     match (left, right) {
         (Value::Null, _) => Ok(Value::Null),
         (_, Value::Null) => Ok(Value::Null),
-        (Value::Int(kind, a), Value::Int(_, b)) => calculated(op, *kind, *a, *b),
-        (Value::Text(a), Value::Text(b)) => Ok(Value::Text(joined(alloc, a, b)?)),
+        (Value::Int(kind, a), Value::Int(_, b)) => calculate(op, *kind, *a, *b),
+        (Value::Text(a), Value::Text(b)) => Ok(Value::Text(join(alloc, a, b)?)),
         _ => unreachable!(),
     }
 }
 
 /// The bytes of the first, and then those of the second.
-fn joined(alloc: Global, first: &Bytes, second: &Bytes) -> Result<Bytes, NoMemory>
+fn join(alloc: Global, first: &Bytes, second: &Bytes) -> Result<Bytes, NoMemory>
     ensures { IfOk result (λ both. both ≡ first.now ++ second.now) }
 {
-    let mut both = copy_bytes(alloc, first.as_slice())?;
+    let mut both = Bytes::from_slice(alloc, first.as_slice())?;
     both.extend(second.as_slice())?;
     Ok(both)
 }
 
 /// An operator of arithmetic on two numbers, the first of this kind.
-fn calculated(op: BinOp, kind: Kind, a: i128, b: i128) -> Result<Value, ValueFault>
+fn calculate(op: BinOp, kind: Kind, a: i128, b: i128) -> Result<Value, ValueFault>
     requires { IsArithmetic op }
     ensures value { result ≡ on_numbers op kind a b }
     ensures no_memory { result ≢ Err ValueFault.NoMemory }

@@ -1,11 +1,12 @@
+//! Conversions between kinds.
+
 ghost use Rattle.std.specs.Prelude.{◌≡◌, IfOk, OnErr};
 ghost use Rattle.ql_value.specs.Number.{IsInteger};
 ghost use Rattle.ql_value.specs.Convert.{IsByteList, IsConvertible, converted, fitted};
 
-use crate::value::copy_bytes;
 use crate::wrapping::{is_within, wrap};
 use crate::{Kind, Value, ValueFault};
-use ql_edge::NoMemory;
+use ql_edge::{Bytes, NoMemory};
 use std::alloc::Global;
 
 /// The value as one of the kind: a number keeps its low bits, a string or a blob its bytes. NULL stays NULL.
@@ -19,7 +20,7 @@ pub fn convert(alloc: Global, kind: Kind, value: &Value) -> Result<Value, NoMemo
         Value::Bool(truth) => Ok(Value::Bool(*truth)),
         Value::Int(_, number) => Ok(Value::Int(kind, wrap(kind, *number))),
         Value::Text(bytes) | Value::Blob(bytes) => {
-            let copy = copy_bytes(alloc, bytes.as_slice())?;
+            let copy = Bytes::from_slice(alloc, bytes.as_slice())?;
             Ok(if kind == Kind::Text {
                 Value::Text(copy)
             } else {

@@ -1,3 +1,5 @@
+//! Why an operation on values gives none.
+
 ghost use Rattle.std.specs.Prelude.{◌≡◌};
 ghost use Rattle.ql_value.specs.declared.fault.ValueFault.TheVariants as variant;
 

@@ -1,6 +1,9 @@
+//! Laws by which a reader checks the definitions.
+
 ghost use Rattle.ql_value.specs.ArithLaws.{ArithIsExact};
 ghost use Rattle.ql_value.specs.KindLaws.{KindLaws};
 ghost use Rattle.ql_value.specs.OrderLaws.{OrderLaws};
+ghost use Rattle.ql_value.specs.RefusalLaws.{RefusalLaws};
 
 /// `compare` is a total order, tells two values of one kind apart, and puts NULL first. The call does nothing.
 pub fn order_laws()
@@ -17,4 +20,9 @@ pub fn arith_laws()
 /// nothing.
 pub fn kind_laws()
     ensures { KindLaws }
+{}
+
+/// Each number of a refusal has a word, no two have the same, and no other number has one. The call does nothing.
+pub fn refusal_laws()
+    ensures { RefusalLaws }
 {}

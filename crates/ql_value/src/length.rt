@@ -1,3 +1,5 @@
+//! How many bytes rows and keys take.
+
 ghost use Rattle.std.specs.Prelude.{◌≡◌, ◌^◌, ◌+◌, ◌-◌, min, sum_by, count_by, ◌==◌};
 ghost use Rattle.ql_value.specs.Length.{value_length, length_of_key, length_of_row};
 

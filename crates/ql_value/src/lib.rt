@@ -16,7 +16,7 @@ mod wrapping;
 pub use arithmetic::arith;
 pub use conversion::{convert, fit};
 pub use fault::ValueFault;
-pub use laws::{arith_laws, kind_laws, order_laws};
+pub use laws::{arith_laws, kind_laws, order_laws, refusal_laws};
 pub use length::{key_length, row_length};
 pub use operator::{BinOp, UnOp, UnOps};
 pub use order::compare;

@@ -1,3 +1,5 @@
+//! The operators of expressions.
+
 use ql_edge::Items;
 
 /// An operator between two operands, from the level that binds most to the one that binds least.

@@ -1,3 +1,5 @@
+//! The order of values.
+
 ghost use Rattle.std.specs.Prelude.{◌≡◌};
 ghost use Rattle.ql_value.specs.Order.{compared, rank};
 

@@ -1,3 +1,5 @@
+//! What values print.
+
 ghost use Rattle.std.specs.Prelude.{◌≡◌, ℕ, ◌<◌, ◌≤◌, true, false, ◌++◌, [], ◌∷◌, take, length, decimal, IsTrue, IfOk, OnOk, OnErr};
 ghost use Rattle.ql_value.specs.Print.{AddsFront, blob_text, hex_digit, is_hidden, other_byte, printed, quoted, shown_byte, shown_bytes};
 

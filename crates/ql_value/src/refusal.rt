@@ -1,7 +1,10 @@
-ghost use Rattle.std.specs.Prelude.{◌≡◌};
+//! The refusals that a statement may meet.
+
+ghost use Rattle.std.specs.Prelude.{◌≡◌, [], IfOk};
 ghost use Rattle.ql_value.specs.Refusal.{refusal_word};
 
-use ql_edge::Bytes;
+use ql_edge::{Bytes, NoMemory};
+use std::alloc::Global;
 
 /// The refusal of a statement that names a table that is not there.
 pub const NO_TABLE: u8 = 1;
@@ -49,6 +52,24 @@ pub struct Refusal {
 }
 
 impl Refusal {
+    /// A refusal that names nothing. It takes no memory.
+    pub fn new(alloc: Global, number: u8) -> Refusal
+        ensures { result ≡ record { number = number; name = [] } }
+    {
+        Refusal {
+            number,
+            name: Bytes::new(alloc),
+        }
+    }
+
+    /// A refusal that shows a copy of a name.
+    pub fn with_name(alloc: Global, number: u8, name: &[u8]) -> Result<Refusal, NoMemory>
+        ensures { IfOk result (λ refusal. refusal ≡ record { number = number; name = name.now }) }
+    {
+        let name = Bytes::from_slice(alloc, name)?;
+        Ok(Refusal { number, name })
+    }
+
     /// The word for the refusal's number.
     pub fn word(&self) -> &'static [u8]
         ensures { result.now ≡ refusal_word self.now.number }

@@ -534,5 +534,6 @@ fn strings(rt: HostRuntime) -> Result<(), Fail> {
     order_laws();
     arith_laws();
     kind_laws();
+    refusal_laws();
     Ok(())
 }

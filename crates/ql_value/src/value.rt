@@ -1,3 +1,5 @@
+//! Values and their kinds.
+
 ghost use Rattle.std.specs.Prelude.{◌≡◌, IfOk, OnErr};
 ghost use Rattle.ql_value.specs.Convert.{IsByteList};
 ghost use Rattle.ql_value.specs.Kinds as spec;
@@ -77,16 +79,7 @@ pub fn copy_value(alloc: Global, value: &Value) -> Result<Value, NoMemory>
         Value::Null => Ok(Value::Null),
         Value::Bool(truth) => Ok(Value::Bool(*truth)),
         Value::Int(kind, number) => Ok(Value::Int(*kind, *number)),
-        Value::Text(bytes) => Ok(Value::Text(copy_bytes(alloc, bytes.as_slice())?)),
-        Value::Blob(bytes) => Ok(Value::Blob(copy_bytes(alloc, bytes.as_slice())?)),
+        Value::Text(bytes) => Ok(Value::Text(Bytes::from_slice(alloc, bytes.as_slice())?)),
+        Value::Blob(bytes) => Ok(Value::Blob(Bytes::from_slice(alloc, bytes.as_slice())?)),
     }
-}
-
-/// A list of these bytes.
-pub(crate) fn copy_bytes(alloc: Global, bytes: &[u8]) -> Result<Bytes, NoMemory>
-    ensures { IfOk result (λ copy. copy ≡ bytes.now) }
-{
-    let mut copy = Bytes::new(alloc);
-    copy.extend(bytes)?;
-    Ok(copy)
 }

@@ -1,3 +1,5 @@
+//! The numbers of the integer kinds.
+
 ghost use Rattle.std.specs.Prelude.{◌≡◌, ◌^◌, ◌≤◌, pos};
 ghost use Rattle.ql_value.specs.Number.{width, least, greatest, has_number, wrapped};
 

@@ -2,7 +2,7 @@
 use Rattle.std.proofs.Common.{◌∙◌, sym, ap}
 use Rattle.ql_syntax.specs.Values as spec
 use Rattle.ql_eval.proofs.Places.{within, placed_is}
-use Rattle.ql_eval.proofs.convert.placed.Goals as goal
+use Rattle.ql_eval.proofs.convert.copy_place.Goals as goal
 
 pub bounds-row-index : goal.bounds-row-index
 bounds-row-index c = within c.args.row.now c.args.at c.requires

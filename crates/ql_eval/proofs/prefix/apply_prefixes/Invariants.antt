@@ -1,6 +1,6 @@
 use Rattle.std.proofs.Common.{◌≡◌, length}
 use Rattle.ql_syntax.specs.Values as spec
-use Rattle.ql_eval.proofs.prefix.prefixed.Given as goal
+use Rattle.ql_eval.proofs.prefix.apply_prefixes.Given as goal
 
 -- the operators that are left, on the value so far, come to what all of them come to
 abbrev pub invariant-ops : goal.invariant-ops
