@@ -1,6 +1,7 @@
 -- What is known of the token at a cursor.
-use Rattle.std.proofs.Common.{◌≡◌, true, List, ℕ, ◌∷◌, All, IsTrue}
-use Rattle.std.proofs.lemmas.List.Elements.{All-head}
+use Rattle.std.proofs.Common.{◌≡◌, true, List, ℕ, ◌+◌, ◌-◌, [], ◌∷◌, ◌++◌, All, IsTrue, Option, Some, None, MatchOption, take, drop, reverse, option_to_list, refl}
+use Rattle.std.proofs.lemmas.List.{reverse-append}
+use Rattle.std.proofs.lemmas.List.Elements.{All-head, All-drop}
 use Rattle.ql_lex.specs.Tokens.{IsIn, IsName, IsSpelled, spelling_of}
 use Rattle.ql_lex.specs.Numbers.{is_number}
 use Rattle.ql_lex.specs.declared.token.Token.{Token}
@@ -39,3 +40,14 @@ pub head_number : (source : List ℕ) (t : Token) (tokens rest : List Token) →
 head_number source t tokens rest e all f =
     let g : kind_is_number t.kind ≡ true = rw e at f in
     spelled_number t.kind (spelling_of source t) g (head_in source t tokens rest e all).spelled
+
+-- without the last token, the tokens in reverse order are those behind the first
+pub behind_next : (old now : List Token) (last : Option Token) (n k : ℕ) → old ≡ now ++ option_to_list last → MatchOption last ((n ≡ 0) × (k ≡ 0)) (λ t. k + 1 ≡ n) → now ≡ take (n - 1) old → reverse now ≡ drop 1 (reverse old)
+behind_next old now None n k e h r =
+    let none : now ≡ [] = rw h.0 at r in
+    rw (e, none) refl
+behind_next old now (Some t) n k e h r = rw (e, reverse-append now (t ∷ [])) refl
+
+-- and they stand on bytes of the source as before
+pub all_behind : (source : List ℕ) (old now : List Token) (last : Option Token) (n k : ℕ) → old ≡ now ++ option_to_list last → MatchOption last ((n ≡ 0) × (k ≡ 0)) (λ t. k + 1 ≡ n) → now ≡ take (n - 1) old → All (IsIn source) (reverse old) → All (IsIn source) (reverse now)
+all_behind source old now last n k e h r all = rw (behind_next old now last n k e h r) (All-drop (IsIn source) 1 (reverse old) all)

@@ -9,10 +9,9 @@ use crate::exists::if_exists;
 use crate::fault::Fault;
 use crate::parser::Parser;
 use crate::steps::{expect_name, expect_word, sees_word, unexpected};
-use ql_syntax::Statement;
-use ql_syntax::{Expr, Select};
-use ql_edge::Name;
+use ql_edge::{Boxed, Name};
 use ql_lex::Word;
+use ql_syntax::{Expr, Select, Statement};
 use std::alloc::Global;
 
 /// A keyword, IF EXISTS or none of it, and a name.
@@ -62,7 +61,8 @@ impl<
     {
         if sees_word(cursor, Word::Add) {
             cursor.skip();
-            let column = self.column_def(cursor)?;
+            let definition = self.column_def(cursor)?;
+            let column = Boxed::new(self.alloc, definition)?;
             return Ok(Statement::AddColumn { table, column });
         }
         if !sees_word(cursor, Word::Drop) {

@@ -10,8 +10,8 @@ use crate::cursor::Cursor;
 use crate::fault::Fault;
 use crate::members::Members;
 use crate::steps::{expect_mark, sees_mark, unexpected};
-use ql_syntax::{Expr, Exprs, Select};
 use ql_lex::Mark;
+use ql_syntax::{Expr, Exprs, Select};
 
 /// Takes `(`, where one more bracket may be opened.
 fn open_bracket(room: usize, cursor: &mut Cursor<'_>) -> Result<(), Fault>

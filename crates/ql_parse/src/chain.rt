@@ -11,8 +11,8 @@ use crate::fault::Fault;
 use crate::kinds::next_prefix;
 use crate::level::{Level, next_op};
 use crate::parser::Parser;
-use ql_syntax::{Expr, Link, Links, Select};
 use ql_edge::{Boxed, NoMemory};
+use ql_syntax::{Expr, Link, Links, Select};
 use ql_value::UnOps;
 use std::alloc::Global;
 
@@ -20,10 +20,11 @@ use std::alloc::Global;
 fn chained(alloc: Global, first: Expr, rest: Links) -> Result<Expr, NoMemory>
     ensures { IfOk result (λ e. e ≡ chain first rest) }
 {
-    if rest.as_slice().is_empty() {
+    if rest.is_empty() {
         return Ok(first);
     }
     let first = Boxed::new(alloc, first)?;
+    let rest = Boxed::new(alloc, rest)?;
     Ok(Expr::Chain { first, rest })
 }
 
@@ -31,9 +32,10 @@ fn chained(alloc: Global, first: Expr, rest: Links) -> Result<Expr, NoMemory>
 fn prefixed(alloc: Global, ops: UnOps, part: Expr) -> Result<Expr, NoMemory>
     ensures { IfOk result (λ e. e ≡ signed ops part) }
 {
-    if ops.as_slice().is_empty() {
+    if ops.is_empty() {
         return Ok(part);
     }
+    let ops = Boxed::new(alloc, ops)?;
     let part = Boxed::new(alloc, part)?;
     Ok(Expr::Unary { ops, part })
 }
@@ -47,6 +49,7 @@ fn prefixes(alloc: Global, cursor: &mut Cursor<'_>) -> Result<UnOps, Fault>
         ops.push(op)?;
         cursor.skip();
     }
+    ops.shrink_to_fit();
     Ok(ops)
 }
 
@@ -70,6 +73,7 @@ impl<
             let part = part(cursor)?;
             links.push(Link { op, part })?;
         }
+        links.shrink_to_fit();
         Ok(links)
     }
 
@@ -81,6 +85,15 @@ impl<
         let first = self.term(cursor)?;
         let rest = self.links(Level::Either, cursor, |cursor| self.term(cursor))?;
         Ok(chained(self.alloc, first, rest)?)
+    }
+
+    /// An expression, on the heap.
+    pub fn boxed_expression(&self, cursor: &mut Cursor<'_>) -> Result<Boxed<Expr>, Fault>
+        requires { Nests self.now.room (E.pre self.now.expr) (E.post self.now.expr) (S.pre self.now.select) (S.post self.now.select) }
+        ensures { Answers self.now.room (rule.the rule.expr) expr_of cursor.old result cursor.new }
+    {
+        let part = self.expression(cursor)?;
+        Ok(Boxed::new(self.alloc, part)?)
     }
 
     fn term(&self, cursor: &mut Cursor<'_>) -> Result<Expr, Fault>
@@ -103,13 +116,22 @@ impl<
     }
 
     /// A sum, the part of comparisons.
-    pub fn sum(&self, cursor: &mut Cursor<'_>) -> Result<Expr, Fault>
+    fn sum(&self, cursor: &mut Cursor<'_>) -> Result<Expr, Fault>
         requires { Nests self.now.room (E.pre self.now.expr) (E.post self.now.expr) (S.pre self.now.select) (S.post self.now.select) }
         ensures { Answers self.now.room (rule.the rule.sum) expr_of cursor.old result cursor.new }
     {
         let first = self.product(cursor)?;
         let rest = self.links(Level::Sum, cursor, |cursor| self.product(cursor))?;
         Ok(chained(self.alloc, first, rest)?)
+    }
+
+    /// A sum, on the heap.
+    pub fn boxed_sum(&self, cursor: &mut Cursor<'_>) -> Result<Boxed<Expr>, Fault>
+        requires { Nests self.now.room (E.pre self.now.expr) (E.post self.now.expr) (S.pre self.now.select) (S.post self.now.select) }
+        ensures { Answers self.now.room (rule.the rule.sum) expr_of cursor.old result cursor.new }
+    {
+        let part = self.sum(cursor)?;
+        Ok(Boxed::new(self.alloc, part)?)
     }
 
     fn product(&self, cursor: &mut Cursor<'_>) -> Result<Expr, Fault>

@@ -8,8 +8,9 @@ use crate::cursor::Cursor;
 use crate::fault::Fault;
 use crate::parser::Parser;
 use crate::steps::sees_word;
-use ql_syntax::{Expr, Select};
+use ql_edge::Boxed;
 use ql_lex::Word;
+use ql_syntax::{Expr, Select};
 use std::alloc::Global;
 
 impl<
@@ -17,7 +18,7 @@ impl<
     S: Fn(Global, usize, &mut Cursor<'_>) -> Result<Select, Fault>,
 > Parser<E, S> {
     /// A keyword and the expression behind it, or none of both.
-    pub fn clause(&self, cursor: &mut Cursor<'_>, word: Word) -> Result<Option<Expr>, Fault>
+    pub fn clause(&self, cursor: &mut Cursor<'_>, word: Word) -> Result<Option<Boxed<Expr>>, Fault>
         requires { Nests self.now.room (E.pre self.now.expr) (E.post self.now.expr) (S.pre self.now.select) (S.post self.now.select) }
         ensures { Answers self.now.room (rule.maybe (rule.word word then rule.the rule.expr)) option_of cursor.old result cursor.new }
     {
@@ -25,7 +26,7 @@ impl<
             return Ok(None);
         }
         cursor.skip();
-        let part = self.expression(cursor)?;
+        let part = self.boxed_expression(cursor)?;
         Ok(Some(part))
     }
 }

@@ -13,9 +13,9 @@ use crate::kinds::{begins_expr, next_kind};
 use crate::list::{Listed, list};
 use crate::parser::Parser;
 use crate::steps::{expect_name, expect_word, sees_name, sees_word, unexpected};
-use ql_syntax::{ColumnDef, ColumnDefs};
-use ql_syntax::{Expr, Select};
+use ql_edge::Boxed;
 use ql_lex::Word;
+use ql_syntax::{ColumnDef, ColumnDefs, Expr, Select};
 use ql_value::Kind;
 use std::alloc::Global;
 
@@ -48,7 +48,7 @@ impl<
     S: Fn(Global, usize, &mut Cursor<'_>) -> Result<Select, Fault> + Copy,
 > Parser<E, S> {
     /// NOT NULL or a rule in its place: whether it is NOT NULL, and the rule.
-    fn constraint(&self, cursor: &mut Cursor<'_>) -> Result<(bool, Option<Expr>), Fault>
+    fn constraint(&self, cursor: &mut Cursor<'_>) -> Result<(bool, Option<Boxed<Expr>>), Fault>
         requires { Nests self.now.room (E.pre self.now.expr) (E.post self.now.expr) (S.pre self.now.select) (S.post self.now.select) }
         ensures { Answers self.now.room constraint_rule constraint_of cursor.old result cursor.new }
     {
@@ -58,7 +58,7 @@ impl<
             return Ok((true, None));
         }
         if begins_expr(cursor) {
-            let rule = self.expression(cursor)?;
+            let rule = self.boxed_expression(cursor)?;
             return Ok((false, Some(rule)));
         }
         Ok((false, None))

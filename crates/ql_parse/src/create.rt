@@ -16,10 +16,9 @@ use crate::parser::Parser;
 use crate::steps::{
     eat_word, expect_name, expect_word, sees_name, sees_open_behind, sees_word, unexpected,
 };
-use ql_syntax::{ColumnDefs, Item, Statement};
-use ql_syntax::{Expr, Select};
-use ql_edge::Name;
+use ql_edge::{Boxed, Name};
 use ql_lex::{TokenKind, Word};
+use ql_syntax::{ColumnDefs, Expr, Item, Select, Statement};
 use std::alloc::Global;
 
 /// The columns of a table.
@@ -90,7 +89,7 @@ fn one_item(alloc: Global, room: usize, cursor: &mut Cursor<'_>) -> Result<Item,
 }
 
 /// The table of an index, and what it orders by.
-fn target(alloc: Global, room: usize, cursor: &mut Cursor<'_>) -> Result<(Name, Item), Fault>
+fn target(alloc: Global, room: usize, cursor: &mut Cursor<'_>) -> Result<(Name, Boxed<Item>), Fault>
     ensures { Answers room spec.target_rule spec.target_of cursor.old result cursor.new }
 {
     expect_word(cursor, Word::On)?;
@@ -98,6 +97,7 @@ fn target(alloc: Global, room: usize, cursor: &mut Cursor<'_>) -> Result<(Name, 
     let item = bracketed::<IndexItem, _>(room, cursor, |room, cursor| {
         one_item(alloc, room, cursor)
     })?;
+    let item = Boxed::new(alloc, item)?;
     Ok((table, item))
 }
 

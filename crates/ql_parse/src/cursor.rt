@@ -1,26 +1,30 @@
-ghost use Rattle.std.specs.Prelude.{◌≡◌, [], ◌∷◌, length, drop, All, IfOk, IsTrue, MatchOption};
+ghost use Rattle.std.specs.Prelude.{◌≡◌, [], ◌∷◌, length, drop, reverse, All, IfOk, IsTrue, MatchOption};
 ghost use Rattle.ql_lex.specs.Meaning.{text_value};
 ghost use Rattle.ql_lex.specs.Numbers.{number_value};
 ghost use Rattle.ql_lex.specs.Tokens.{IsIn, spelling_of};
 ghost use Rattle.ql_syntax.specs.Lexemes as spec;
 
 use ql_edge::{Bytes, Name, NoMemory};
-use ql_lex::{Token, TokenKind, number_of, text_of};
+use ql_lex::{Token, TokenKind, Tokens, number_of, text_of};
 use std::alloc::Global;
 use std::marker::Model;
+
+/// How much room for tokens that were read is kept at most.
+const ROOM_KEPT: usize = 65_536;
 
 /// The tokens of a source that are left to read. Contracts see them with their spellings.
 #[derive(Drop)]
 pub struct Cursor<'a> {
     source: &'a [u8],
-    tokens: &'a [Token],
+    /// In reverse order, so that a token that was read gives its room back.
+    tokens: Vec<Token>,
 }
 
-/// The first token and the others.
-fn first(tokens: &[Token]) -> Option<(Token, &[Token])>
-    ensures { MatchOption result (tokens.now ≡ []) (λ p. tokens.now ≡ p.0 ∷ p.1.now) }
+/// The next token and those behind it, where tokens stand in reverse order.
+fn next(tokens: &[Token]) -> Option<(Token, &[Token])>
+    ensures { MatchOption result (reverse tokens.now ≡ []) (λ p. reverse tokens.now ≡ p.0 ∷ reverse p.1.now) }
 {
-    let (token, rest) = tokens.split_first()?;
+    let (token, rest) = tokens.split_last()?;
     Some((*token, rest))
 }
 
@@ -33,23 +37,25 @@ fn spelling<'a>(source: &'a [u8], token: &Token) -> &'a [u8]
 }
 
 impl<'a> Model for Cursor<'a> {
-    ghost use Rattle.std.specs.Prelude.{List, All};
+    ghost use Rattle.std.specs.Prelude.{List, All, reverse};
     ghost use Rattle.ql_lex.specs.Tokens.{IsIn};
     ghost use Rattle.ql_syntax.specs.Lexemes.{Lexeme, lexemes};
 
     ghost Value = { List Lexeme };
 
-    ghost view = { λ c. lexemes c.source.now c.tokens.now };
+    ghost view = { λ c. lexemes c.source.now (reverse c.tokens.items) };
 
-    ghost invariant = { λ c. All (IsIn c.source.now) c.tokens.now };
+    ghost invariant = { λ c. All (IsIn c.source.now) (reverse c.tokens.items) };
 }
 
 impl<'a> Cursor<'a> {
     /// All tokens of a source.
-    pub fn new(source: &'a [u8], tokens: &'a [Token]) -> Cursor<'a>
-        requires { All (IsIn source.now) tokens.now }
-        ensures { result ≡ spec.lexemes source.now tokens.now }
+    pub fn new(source: &'a [u8], tokens: Tokens) -> Cursor<'a>
+        requires { All (IsIn source.now) tokens }
+        ensures { result ≡ spec.lexemes source.now tokens }
     {
+        let mut tokens = tokens.into_vec();
+        tokens.reverse();
         Cursor { source, tokens }
     }
 
@@ -64,7 +70,7 @@ impl<'a> Cursor<'a> {
     pub fn kind(&self) -> Option<TokenKind>
         ensures { result ≡ spec.kind_at self.now }
     {
-        let (token, _) = first(self.tokens)?;
+        let (token, _) = next(&self.tokens)?;
         Some(token.kind)
     }
 
@@ -72,8 +78,8 @@ impl<'a> Cursor<'a> {
     pub fn second_kind(&self) -> Option<TokenKind>
         ensures { result ≡ spec.kind_at (drop 1 self.now) }
     {
-        let (_, rest) = first(self.tokens)?;
-        let (token, _) = first(rest)?;
+        let (_, rest) = next(&self.tokens)?;
+        let (token, _) = next(rest)?;
         Some(token.kind)
     }
 
@@ -81,7 +87,7 @@ impl<'a> Cursor<'a> {
     pub fn text(&self) -> &'a [u8]
         ensures { result.now ≡ spec.text_at self.now }
     {
-        match first(self.tokens) {
+        match next(&self.tokens) {
             Some((token, _)) => spelling(self.source, &token),
             None => &[],
         }
@@ -92,7 +98,7 @@ impl<'a> Cursor<'a> {
         requires { IsTrue (spec.sees spec.is_name self.now) }
         ensures { IfOk result (λ name. name ≡ spec.text_at self.now) }
     {
-        match first(self.tokens) {
+        match next(&self.tokens) {
             Some((token, _)) => Name::new(alloc, spelling(self.source, &token)),
             None => unreachable!(),
         }
@@ -103,7 +109,7 @@ impl<'a> Cursor<'a> {
         requires { IsTrue (spec.sees spec.is_number self.now) }
         ensures { result ≡ number_value (spec.text_at self.now) }
     {
-        match first(self.tokens) {
+        match next(&self.tokens) {
             Some((token, _)) => number_of(self.source, &token),
             None => unreachable!(),
         }
@@ -114,7 +120,7 @@ impl<'a> Cursor<'a> {
         requires { IsTrue (spec.sees spec.is_text self.now) }
         ensures { IfOk result (λ bytes. bytes ≡ text_value (spec.text_at self.now)) }
     {
-        match first(self.tokens) {
+        match next(&self.tokens) {
             Some((token, _)) => text_of(alloc, self.source, &token),
             None => unreachable!(),
         }
@@ -124,8 +130,10 @@ impl<'a> Cursor<'a> {
     pub fn skip(&mut self)
         ensures { self.new ≡ drop 1 self.old }
     {
-        if let Some((_, rest)) = first(self.tokens) {
-            self.tokens = rest;
+        self.tokens.pop();
+        let left = self.tokens.len();
+        if self.tokens.capacity() - left >= ROOM_KEPT {
+            self.tokens.shrink_to(left);
         }
     }
 }

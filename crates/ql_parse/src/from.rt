@@ -11,29 +11,29 @@ use crate::kinds::{begins_expr, begins_join};
 use crate::list::{FieldList, SetList, list};
 use crate::parser::Parser;
 use crate::steps::{
-    eat_word, expect_name, expect_word, sees_mark, sees_name, sees_word, unexpected,
+    eat_word, expect_boxed_name, expect_word, sees_mark, sees_name, sees_word, unexpected,
 };
-use ql_syntax::{Expr, Field, Fields, FromSet, FromSets, Join, Select, SetSource, Side};
 use ql_edge::{Boxed, Name};
 use ql_lex::{Mark, Word};
+use ql_syntax::{Expr, Field, Fields, FromSet, FromSets, Join, Select, SetSource, Side};
 use std::alloc::Global;
 
 /// What stands behind FROM.
 #[derive(Drop)]
 pub struct Sources {
     pub sets: FromSets,
-    pub join: Option<Join>,
+    pub join: Option<Boxed<Join>>,
 }
 
 /// The name behind AS, or nothing.
-fn alias(alloc: Global, cursor: &mut Cursor<'_>) -> Result<Option<Name>, Fault>
+fn alias(alloc: Global, cursor: &mut Cursor<'_>) -> Result<Option<Boxed<Name>>, Fault>
     ensures { AnswersAnywhere spec.alias_rule alias_of cursor.old result cursor.new }
 {
     if !sees_word(cursor, Word::As) {
         return Ok(None);
     }
     expect_word(cursor, Word::As)?;
-    let name = expect_name(alloc, cursor)?;
+    let name = expect_boxed_name(alloc, cursor)?;
     Ok(Some(name))
 }
 
@@ -92,7 +92,7 @@ impl<
         ensures { Answers self.now.room spec.source_rule source_of cursor.old result cursor.new }
     {
         if sees_name(cursor) {
-            return Ok(SetSource::Table(expect_name(self.alloc, cursor)?));
+            return Ok(SetSource::Table(expect_boxed_name(self.alloc, cursor)?));
         }
         if !sees_mark(cursor, Mark::Open) {
             return Err(unexpected(cursor));
@@ -112,7 +112,7 @@ impl<
         Ok(FromSet { source, alias })
     }
 
-    fn join(&self, cursor: &mut Cursor<'_>) -> Result<Join, Fault>
+    fn join(&self, cursor: &mut Cursor<'_>) -> Result<Boxed<Join>, Fault>
         requires { Nests self.now.room (E.pre self.now.expr) (E.post self.now.expr) (S.pre self.now.select) (S.post self.now.select) }
         ensures { Answers self.now.room rule.join spec.one_join_of cursor.old result cursor.new }
     {
@@ -122,11 +122,11 @@ impl<
         let set = self.set(cursor)?;
         expect_word(cursor, Word::On)?;
         let on = self.expression(cursor)?;
-        Ok(Join { side, set, on })
+        Ok(Boxed::new(self.alloc, Join { side, set, on })?)
     }
 
     /// A join, or nothing.
-    fn maybe_join(&self, cursor: &mut Cursor<'_>) -> Result<Option<Join>, Fault>
+    fn maybe_join(&self, cursor: &mut Cursor<'_>) -> Result<Option<Boxed<Join>>, Fault>
         requires { Nests self.now.room (E.pre self.now.expr) (E.post self.now.expr) (S.pre self.now.select) (S.post self.now.select) }
         ensures { Answers self.now.room (rule.maybe rule.join) spec.maybe_join_of cursor.old result cursor.new }
     {

@@ -11,10 +11,9 @@ use crate::fault::Fault;
 use crate::list::{Listed, list};
 use crate::parser::Parser;
 use crate::steps::{expect_name, expect_word, sees_mark, sees_name, sees_word, unexpected};
-use ql_syntax::{RowSource, Statement};
-use ql_syntax::{Expr, Exprs, Select};
-use ql_edge::{Name, Names};
+use ql_edge::{Boxed, Name, Names};
 use ql_lex::{Mark, Word};
+use ql_syntax::{Expr, Exprs, RowSource, Select, Statement};
 use std::alloc::Global;
 
 /// Names.
@@ -103,7 +102,7 @@ impl<
             return Ok(RowSource::Rows(rows));
         }
         if sees_word(cursor, Word::Select) {
-            return Ok(RowSource::Query(self.query(cursor)?));
+            return Ok(RowSource::Query(self.boxed_query(cursor)?));
         }
         Err(unexpected(cursor))
     }
@@ -118,6 +117,7 @@ impl<
         let table = expect_name(self.alloc, cursor)?;
         let columns = column_names(self.alloc, self.room, cursor)?;
         let source = self.rows(cursor)?;
+        let source = Boxed::new(self.alloc, source)?;
         Ok(Statement::Insert {
             table,
             columns,

@@ -29,8 +29,8 @@ mod update;
 
 pub use fault::ParseFault;
 pub use ql_syntax::{
-    Assign, Assigns, ColumnDef, ColumnDefs, Expr, ExprRows, Exprs, Field, Fields, FromSet, FromSets,
-    Function, Item, Join, Link, Links, RowSource, Select, SetSource, Side, Statement, Statements,
-    copy_expr,
+    Assign, Assigns, ColumnDef, ColumnDefs, Expr, ExprRows, Exprs, Field, Fields, FromSet,
+    FromSets, Function, Item, Join, Link, Links, RowSource, Select, SetSource, Side, Statement,
+    Statements, copy_expr,
 };
 pub use scripts::{BRACKET_LIMIT, script};

@@ -8,9 +8,9 @@ use crate::cursor::Cursor;
 use crate::fault::Fault;
 use crate::kinds::{begins_expr, begins_set};
 use crate::steps::{eat_mark, sees_name};
-use ql_syntax::{Expr, Field, FromSet};
 use ql_edge::Items;
 use ql_lex::Mark;
+use ql_syntax::{Expr, Field, FromSet};
 use std::alloc::Global;
 
 /// A list of the grammar, told by what its members are.
@@ -44,6 +44,7 @@ where
         }
         items.push(part(room, cursor)?)?;
     }
+    items.shrink_to_fit();
     Ok(items)
 }
 

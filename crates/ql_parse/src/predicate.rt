@@ -15,9 +15,9 @@ use crate::kinds::{begins_expr, begins_membership};
 use crate::members::Members;
 use crate::parser::Parser;
 use crate::steps::{eat_mark, eat_word, expect_word, sees_word, unexpected};
-use ql_syntax::{Expr, Select};
 use ql_edge::Boxed;
 use ql_lex::{Mark, Word};
+use ql_syntax::{Expr, Select};
 use std::alloc::Global;
 
 /// IS NULL or IS NOT NULL.
@@ -28,7 +28,7 @@ fn null_test(alloc: Global, cursor: &mut Cursor<'_>, part: Expr) -> Result<Expr,
     let not = eat_word(cursor, Word::Not);
     expect_word(cursor, Word::Null)?;
     let part = Boxed::new(alloc, part)?;
-    Ok(Expr::IsNull { part, not })
+    Ok(Expr::IsNull { not, part })
 }
 
 impl<
@@ -81,10 +81,14 @@ impl<
         })?;
         let part = Boxed::new(self.alloc, part)?;
         match members {
-            Members::Listed(list) => Ok(Expr::IsIn { part, not, list }),
-            Members::Query(query) => Ok(Expr::IsInSelect {
-                part,
+            Members::Listed(list) => Ok(Expr::IsIn {
                 not,
+                part,
+                list: Boxed::new(self.alloc, list)?,
+            }),
+            Members::Query(query) => Ok(Expr::IsInSelect {
+                not,
+                part,
                 query: Boxed::new(self.alloc, query)?,
             }),
         }
@@ -96,13 +100,13 @@ impl<
         ensures { Answers self.now.room range_rule (range_of part not) cursor.old result cursor.new }
     {
         expect_word(cursor, Word::Between)?;
-        let low = Boxed::new(self.alloc, self.sum(cursor)?)?;
+        let low = self.boxed_sum(cursor)?;
         expect_word(cursor, Word::And)?;
-        let high = Boxed::new(self.alloc, self.sum(cursor)?)?;
+        let high = self.boxed_sum(cursor)?;
         let part = Boxed::new(self.alloc, part)?;
         Ok(Expr::IsBetween {
-            part,
             not,
+            part,
             low,
             high,
         })

@@ -17,24 +17,26 @@ use crate::functions::{function_of, is_count};
 use crate::kinds::{begins_expr, next_kind};
 use crate::list::{ExprList, list};
 use crate::parser::Parser;
-use crate::steps::{eat_mark, expect_name, sees_mark, sees_open_behind, sees_word, unexpected};
-use ql_syntax::{Expr, Exprs, Function, Select};
+use crate::steps::{
+    eat_mark, expect_boxed_name, sees_mark, sees_open_behind, sees_word, unexpected,
+};
 use ql_edge::Boxed;
 use ql_lex::{Mark, TokenKind, Word};
+use ql_syntax::{Expr, Exprs, Function, Select};
 use std::alloc::Global;
 
 /// A column, with or without its table.
 pub fn column(alloc: Global, cursor: &mut Cursor<'_>) -> Result<Expr, Fault>
     ensures { AnswersAnywhere (rule.the rule.ref) expr_of cursor.old result cursor.new }
 {
-    let first = expect_name(alloc, cursor)?;
+    let first = expect_boxed_name(alloc, cursor)?;
     if !eat_mark(cursor, Mark::Dot) {
         return Ok(Expr::Column {
             table: None,
             column: first,
         });
     }
-    let column = expect_name(alloc, cursor)?;
+    let column = expect_boxed_name(alloc, cursor)?;
     Ok(Expr::Column {
         table: Some(first),
         column,

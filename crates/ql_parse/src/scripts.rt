@@ -18,10 +18,9 @@ use crate::kinds::begins_statement;
 use crate::knot::{expr, select};
 use crate::parser::Parser;
 use crate::steps::{eat_mark, unexpected};
-use ql_syntax::{Statement, Statements};
-use ql_syntax::{Expr, Select};
 use ql_edge::NoMemory;
 use ql_lex::{Mark, Tokens};
+use ql_syntax::{Expr, Select, Statement, Statements};
 use std::alloc::Global;
 
 /// How many brackets may be open at once.
@@ -83,29 +82,31 @@ fn statements(alloc: Global, cursor: &mut Cursor<'_>) -> Result<Statements, Faul
     if cursor.left() > 0 {
         return Err(unexpected(cursor));
     }
+    found.shrink_to_fit();
     Ok(found)
 }
 
 /// Reads the tokens of a source as the statements of a script.
 ///
 /// The grammar stands in docs/LANGUAGE.md.
-pub fn script(alloc: Global, source: &[u8], tokens: &Tokens) -> Result<Statements, ParseFault>
-    requires { Reads source.now (Ok tokens.now) }
-    ensures read { IfOk result (IsRead (lexemes source.now tokens.now)) }
-    ensures unexpected { (i : ℕ) → result ≡ Err (fault.Unexpected i) → IsUnexpected (lexemes source.now tokens.now) i }
-    ensures too_nested { (i : ℕ) → result ≡ Err (fault.TooNested i) → IsTooNested (lexemes source.now tokens.now) i }
+pub fn script(alloc: Global, source: &[u8], tokens: Tokens) -> Result<Statements, ParseFault>
+    requires { Reads source.now (Ok tokens) }
+    ensures read { IfOk result (IsRead (lexemes source.now tokens)) }
+    ensures unexpected { (i : ℕ) → result ≡ Err (fault.Unexpected i) → IsUnexpected (lexemes source.now tokens) i }
+    ensures too_nested { (i : ℕ) → result ≡ Err (fault.TooNested i) → IsTooNested (lexemes source.now tokens) i }
 
     // Each of these is the answer where it holds, unless memory runs out.
-    ensures just_read { (ss : List Statement) → IsRead (lexemes source.now tokens.now) ss → (result ≡ Ok ss) ⊎ (result ≡ Err fault.NoMemory) }
-    ensures just_unexpected { (i : ℕ) → IsUnexpected (lexemes source.now tokens.now) i → (result ≡ Err (fault.Unexpected i)) ⊎ (result ≡ Err fault.NoMemory) }
-    ensures just_nested { (i : ℕ) → IsTooNested (lexemes source.now tokens.now) i → (result ≡ Err (fault.TooNested i)) ⊎ (result ≡ Err fault.NoMemory) }
+    ensures just_read { (ss : List Statement) → IsRead (lexemes source.now tokens) ss → (result ≡ Ok ss) ⊎ (result ≡ Err fault.NoMemory) }
+    ensures just_unexpected { (i : ℕ) → IsUnexpected (lexemes source.now tokens) i → (result ≡ Err (fault.Unexpected i)) ⊎ (result ≡ Err fault.NoMemory) }
+    ensures just_nested { (i : ℕ) → IsTooNested (lexemes source.now tokens) i → (result ≡ Err (fault.TooNested i)) ⊎ (result ≡ Err fault.NoMemory) }
 
     // Laws of the words above, for every list of tokens.
     ensures laws { ScriptLaws }
 {
-    let mut cursor = Cursor::new(source, tokens.as_slice());
+    let count = tokens.len();
+    let mut cursor = Cursor::new(source, tokens);
     match statements(alloc, &mut cursor) {
         Ok(found) => Ok(found),
-        Err(fault) => Err(fault.placed(tokens.len())),
+        Err(fault) => Err(fault.placed(count)),
     }
 }

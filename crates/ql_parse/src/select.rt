@@ -11,17 +11,18 @@ use crate::list::{ExprList, RefList, list};
 use crate::parser::Parser;
 use crate::primary::column;
 use crate::steps::{eat_word, expect_word, sees_word};
-use ql_syntax::{Expr, Exprs, Select};
+use ql_edge::Boxed;
 use ql_lex::Word;
+use ql_syntax::{Expr, Exprs, Select};
 use std::alloc::Global;
 
 /// ORDER BY and its direction, and behind them LIMIT and OFFSET.
-type Sorted = ((Exprs, bool), (Option<Expr>, Option<Expr>));
+type Sorted = ((Exprs, bool), (Option<Boxed<Expr>>, Option<Boxed<Expr>>));
 
 /// What stands behind FROM and its record sets.
 #[derive(Drop)]
 pub struct Filtered {
-    pub filter: Option<Expr>,
+    pub filter: Option<Boxed<Expr>>,
     pub groups: Exprs,
     pub sorted: Sorted,
 }
@@ -75,7 +76,10 @@ impl<
     }
 
     /// LIMIT and OFFSET.
-    fn limits(&self, cursor: &mut Cursor<'_>) -> Result<(Option<Expr>, Option<Expr>), Fault>
+    fn limits(
+        &self,
+        cursor: &mut Cursor<'_>,
+    ) -> Result<(Option<Boxed<Expr>>, Option<Boxed<Expr>>), Fault>
         requires { Nests self.now.room (E.pre self.now.expr) (E.post self.now.expr) (S.pre self.now.select) (S.post self.now.select) }
         ensures { Answers self.now.room spec.limits_rule spec.limits_of cursor.old result cursor.new }
     {
@@ -132,5 +136,13 @@ impl<
             limit,
             offset,
         })
+    }
+    /// A SELECT, on the heap.
+    pub fn boxed_query(&self, cursor: &mut Cursor<'_>) -> Result<Boxed<Select>, Fault>
+        requires { Nests self.now.room (E.pre self.now.expr) (E.post self.now.expr) (S.pre self.now.select) (S.post self.now.select) }
+        ensures { Answers self.now.room (rule.the rule.select) select_of cursor.old result cursor.new }
+    {
+        let query = self.query(cursor)?;
+        Ok(Boxed::new(self.alloc, query)?)
     }
 }

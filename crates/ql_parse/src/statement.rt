@@ -12,9 +12,8 @@ use crate::cursor::Cursor;
 use crate::fault::Fault;
 use crate::parser::Parser;
 use crate::steps::{expect_word, unexpected};
-use ql_syntax::Statement;
-use ql_syntax::{Expr, Select};
 use ql_lex::{TokenKind, Word};
+use ql_syntax::{Expr, Select, Statement};
 use std::alloc::Global;
 
 /// BEGIN TRANSACTION.
@@ -46,7 +45,7 @@ impl<
                 cursor.skip();
                 Ok(Statement::Rollback)
             }
-            Word::Select => Ok(Statement::Query(self.query(cursor)?)),
+            Word::Select => Ok(Statement::Query(self.boxed_query(cursor)?)),
             Word::Create => self.creation(cursor),
             Word::Drop => removal(self.alloc, cursor),
             Word::Alter => self.alteration(cursor),

@@ -7,7 +7,7 @@ ghost use Rattle.ql_parse.specs.declared.fault.Fault.TheVariants as fault;
 
 use crate::cursor::Cursor;
 use crate::fault::Fault;
-use ql_edge::Name;
+use ql_edge::{Boxed, Name};
 use ql_lex::{Mark, TokenKind, Word};
 use std::alloc::Global;
 
@@ -93,6 +93,14 @@ pub fn expect_name(alloc: Global, cursor: &mut Cursor<'_>) -> Result<Name, Fault
     let name = cursor.name(alloc)?;
     cursor.skip();
     Ok(name)
+}
+
+/// Takes a name, and puts it on the heap.
+pub fn expect_boxed_name(alloc: Global, cursor: &mut Cursor<'_>) -> Result<Boxed<Name>, Fault>
+    ensures { AnswersAnywhere rule.name name_of cursor.old result cursor.new }
+{
+    let name = expect_name(alloc, cursor)?;
+    Ok(Boxed::new(alloc, name)?)
 }
 
 /// Takes a mark, if it is the next token.

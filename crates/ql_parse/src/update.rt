@@ -10,9 +10,8 @@ use crate::fault::Fault;
 use crate::list::{Listed, list};
 use crate::parser::Parser;
 use crate::steps::{eat_word, expect_mark, expect_name, expect_word, sees_name};
-use ql_syntax::{Assign, Statement};
-use ql_syntax::{Expr, Select};
 use ql_lex::{Mark, Word};
+use ql_syntax::{Assign, Expr, Select, Statement};
 use std::alloc::Global;
 
 /// The assignments of an UPDATE.

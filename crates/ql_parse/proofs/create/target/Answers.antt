@@ -19,5 +19,5 @@ pub returns : goal.returns
 returns c = record {
   parse = pair (c.in_ok-expect_word.ensures c.args.room).parse (pair (c.in_ok-table.ensures c.args.room).parse (group c.in_ok-item.ensures.parse));
   reads = both (c.in_ok-expect_word.ensures c.args.room).reads (both (c.in_ok-table.ensures c.args.room).reads c.in_ok-item.ensures.reads);
-  means = same_pair (c.in_ok-table.ensures c.args.room).means (c.in_ok-item.ensures.means ∙ enclosed_item c.in_ok-item.ensures.reads);
+  means = same_pair (c.in_ok-table.ensures c.args.room).means (c.in_ok-item-2.ensures ∙ c.in_ok-item.ensures.means ∙ enclosed_item c.in_ok-item.ensures.reads);
 }

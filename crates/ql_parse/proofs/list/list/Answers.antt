@@ -27,8 +27,8 @@ members-preserved g c =
     (sym c.begins.ensures ∙ c.if-not-begins.false) (c.requires.answers _ _ _ c.in_ok-part-2.ensures) g.L.Listed.of.cells)
 
 pub returns : goal.returns
-returns g c = elim c.members-test.branch [
+returns g c = rw c.shrink_to_fit.ensures (elim c.members-test.branch [
   | else-members-test w ↦ no_member c.members.invariant (sym c.eat_mark.ensures.found ∙ w.members-test.false) (c.eat_mark.ensures.kept w.members-test.false) g.L.Listed.of.stops
   | then-members-test+then-not-begins w ↦ last_comma _ c.members.invariant (sym c.eat_mark.ensures.found ∙ w.members-test.true) (c.eat_mark.ensures.taken w.members-test.true)
       (sym w.begins.ensures ∙ w.if-not-begins.true) g.L.Listed.of.stops
-]
+])

@@ -10,10 +10,10 @@ use Rattle.ql_parse.proofs.ScriptLemmas.{script_laws, is_read, is_unexpected, is
 use Rattle.ql_parse.proofs.scripts.script.Goals as goal
 
 pub new-cursor-requires : goal.new-cursor-requires
-new-cursor-requires c = rw c.as_slice.ensures (λ k d i. whole_in c.args.source.now c.args.tokens.now c.requires k d i)
+new-cursor-requires c = λ k d i. whole_in c.args.source.now c.args.tokens c.requires k d i
 
-given : (c : goal.In-Ok) → Gives limit rule.script statements_of (lexemes c.args.source.now c.args.tokens.now) c.in-Ok.found c.statements.new.cursor
-given c = rw (c.new-cursor.ensures, c.as_slice.ensures) at c.in-Ok.ensures
+given : (c : goal.After-drop-cursor-inside) → Gives limit rule.script statements_of (lexemes c.args.source.now c.args.tokens) c.in-Ok.found c.statements.new.cursor
+given c = rw c.new-cursor.ensures at c.in-Ok.ensures
 
 pub returns-in-Ok-clause-read : goal.returns-in-Ok-clause-read
 returns-in-Ok-clause-read c = is_read (given c)
@@ -30,30 +30,30 @@ returns-in-Ok-clause-just_nested c i k = absurd (ok_no_stop (given c) k.stops)
 pub returns-in-Ok-clause-laws : goal.returns-in-Ok-clause-laws
 returns-in-Ok-clause-laws c = script_laws
 
-failed : (c : goal.After-placed) → Fails limit rule.script (lexemes c.args.source.now c.args.tokens.now) c.in-Err.fault
-failed c = rw (c.new-cursor.ensures, c.as_slice.ensures) at c.in-Err.ensures
+failed : (c : goal.After-drop-cursor-inside-2) → Fails limit rule.script (lexemes c.args.source.now c.args.tokens) c.in-Err.fault
+failed c = rw c.new-cursor.ensures at c.in-Err.ensures
 
-count : (c : goal.After-placed) → c.len.result ≡ length (lexemes c.args.source.now c.args.tokens.now)
-count c = c.len.ensures ∙ counted c.args.source.now c.args.tokens.now
+count : (c : goal.After-drop-cursor-inside-2) → c.len-count.result ≡ length (lexemes c.args.source.now c.args.tokens)
+count c = c.len-count.ensures ∙ counted c.args.source.now c.args.tokens
 
-pub returns-in-Err-clause-unexpected : goal.returns-in-Err-clause-unexpected
-returns-in-Err-clause-unexpected c i e =
+pub returns-clause-unexpected : goal.returns-clause-unexpected
+returns-clause-unexpected c i e =
     let same : c.placed.result ≡ p.Unexpected i = cc in
-    is_unexpected c.len.result i c.in-Err.fault (count c) (failed c) (sym c.placed.ensures ∙ same)
+    is_unexpected c.len-count.result i c.in-Err.fault (count c) (failed c) (sym c.placed.ensures ∙ same)
 
-pub returns-in-Err-clause-too_nested : goal.returns-in-Err-clause-too_nested
-returns-in-Err-clause-too_nested c i e =
+pub returns-clause-too_nested : goal.returns-clause-too_nested
+returns-clause-too_nested c i e =
     let same : c.placed.result ≡ p.TooNested i = cc in
-    is_nested c.len.result i c.in-Err.fault (count c) (failed c) (sym c.placed.ensures ∙ same)
+    is_nested c.len-count.result i c.in-Err.fault (count c) (failed c) (sym c.placed.ensures ∙ same)
 
-pub returns-in-Err-clause-just_read : goal.returns-in-Err-clause-just_read
-returns-in-Err-clause-just_read c rs k = rw c.placed.ensures (err_just_read c.len.result c.in-Err.fault (failed c) rs k)
+pub returns-clause-just_read : goal.returns-clause-just_read
+returns-clause-just_read c rs k = rw c.placed.ensures (err_just_read c.len-count.result c.in-Err.fault (failed c) rs k)
 
-pub returns-in-Err-clause-just_unexpected : goal.returns-in-Err-clause-just_unexpected
-returns-in-Err-clause-just_unexpected c i k = rw c.placed.ensures (err_just_unexpected c.len.result c.in-Err.fault (count c) (failed c) i k)
+pub returns-clause-just_unexpected : goal.returns-clause-just_unexpected
+returns-clause-just_unexpected c i k = rw c.placed.ensures (err_just_unexpected c.len-count.result c.in-Err.fault (count c) (failed c) i k)
 
-pub returns-in-Err-clause-just_nested : goal.returns-in-Err-clause-just_nested
-returns-in-Err-clause-just_nested c i k = rw c.placed.ensures (err_just_nested c.len.result c.in-Err.fault (count c) (failed c) i k)
+pub returns-clause-just_nested : goal.returns-clause-just_nested
+returns-clause-just_nested c i k = rw c.placed.ensures (err_just_nested c.len-count.result c.in-Err.fault (count c) (failed c) i k)
 
-pub returns-in-Err-clause-laws : goal.returns-in-Err-clause-laws
-returns-in-Err-clause-laws c = script_laws
+pub returns-clause-laws : goal.returns-clause-laws
+returns-clause-laws c = script_laws

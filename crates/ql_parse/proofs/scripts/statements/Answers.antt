@@ -14,4 +14,4 @@ pub returns-then-left-gt0 : goal.returns-then-left-gt0
 returns-then-left-gt0 c = fails_left c.in_ok-first.ensures c.in_ok-later.ensures.ok (omega (arith, c.left.ensures)) c.unexpected.ensures
 
 pub returns : goal.returns
-returns c = gives_script c.in_ok-first.ensures c.new-found.ensures c.in_ok-add.ensures c.in_ok-later.ensures.ok (none_left _ (omega (arith, c.left.ensures)))
+returns c = rw c.shrink_to_fit.ensures (gives_script c.in_ok-first.ensures c.new-found.ensures c.in_ok-add.ensures c.in_ok-later.ensures.ok (none_left _ (omega (arith, c.left.ensures))))

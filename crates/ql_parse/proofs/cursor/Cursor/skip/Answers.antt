@@ -1,9 +1,8 @@
-use Rattle.std.proofs.Common.{◌∷◌, All}
-use Rattle.std.proofs.lemmas.List.Elements.{All-tail}
-use Rattle.ql_lex.specs.Tokens.{IsIn}
+use Rattle.ql_parse.proofs.CursorLemmas.{all_behind}
 use Rattle.ql_parse.proofs.cursor.Cursor.skip.Goals as goal
 
 pub invariant_of-self : goal.invariant_of-self
-invariant_of-self c =
-    let all : All (IsIn c.self.inside.source.now) (c.in-Some.field-0-0 ∷ c.in-Some.rest.now) = rw c.in-Some.ensures at c.self.invariant in
-    All-tail (IsIn c.self.inside.source.now) _ _ all
+invariant_of-self c = rw c.shrink_to.ensures.items (all_behind _ _ _ c.pop.result _ _ c.pop.ensures.items c.pop.ensures.cases c.pop.ensures.rest c.self.invariant)
+
+pub invariant_of-self-else-capacity-left-ge-ROOM_KEPT : goal.invariant_of-self-else-capacity-left-ge-ROOM_KEPT
+invariant_of-self-else-capacity-left-ge-ROOM_KEPT c = all_behind _ _ _ c.pop.result _ _ c.pop.ensures.items c.pop.ensures.cases c.pop.ensures.rest c.self.invariant

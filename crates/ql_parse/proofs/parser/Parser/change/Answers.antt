@@ -5,19 +5,19 @@ use Rattle.ql_parse.proofs.StepLemmas.{exits, taken}
 use Rattle.ql_parse.proofs.Sequences.{fails_first, fails_second, fails_left, fails_right, fails_neither}
 use Rattle.ql_parse.proofs.parser.Parser.change.Goals as goal
 
-pub returns-in_err-column : goal.returns-in_err-column
-returns-in_err-column g c =
+pub returns-in_err-definition : goal.returns-in_err-definition
+returns-in_err-definition g c =
     let seen = sym c.sees_word.ensures ∙ c.if-sees_word.true in
-    exits _ _ _ _ c.from_residual.ensures.1 (fails_left seen (fails_second (taken c.args.self.now.room seen c.skip.ensures) c.in_err-column.ensures))
+    exits _ _ _ _ c.from_residual.ensures.1 (fails_left seen (fails_second (taken c.args.self.now.room seen c.skip.ensures) c.in_err-definition.ensures))
 
 pub returns-then-sees_word : goal.returns-then-sees_word
 returns-then-sees_word g c =
     let seen = sym c.sees_word.ensures ∙ c.if-sees_word.true in
     let word = taken c.args.self.now.room seen c.skip.ensures in
     record {
-      parse = left (pair word.parse c.in_ok-column.ensures.parse);
-      reads = first seen (both word.reads c.in_ok-column.ensures.reads);
-      means = ap (s.AddColumn c.args.table) c.in_ok-column.ensures.means;
+      parse = left (pair word.parse c.in_ok-definition.ensures.parse);
+      reads = first seen (both word.reads c.in_ok-definition.ensures.reads);
+      means = ap (s.AddColumn c.args.table) (c.in_ok-column.ensures ∙ c.in_ok-definition.ensures.means);
     }
 
 pub returns-then-not-sees_word : goal.returns-then-not-sees_word

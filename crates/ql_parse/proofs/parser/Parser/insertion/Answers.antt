@@ -1,3 +1,4 @@
+use Rattle.std.proofs.Common.{◌∙◌}
 use Rattle.ql_syntax.specs.Rules as rule
 use Rattle.ql_syntax.specs.Readings.{pair, node, both, by_rule}
 use Rattle.ql_parse.proofs.StatementLemmas.{same_insert}
@@ -31,5 +32,5 @@ returns g c = record {
       (pair (c.in_ok-table.ensures c.args.self.now.room).parse (pair c.in_ok-columns.ensures.parse c.in_ok-source.ensures.parse))));
   reads = by_rule (both (c.in_ok-expect_word.ensures c.args.self.now.room).reads (both (c.in_ok-expect_word-2.ensures c.args.self.now.room).reads
       (both (c.in_ok-table.ensures c.args.self.now.room).reads (both c.in_ok-columns.ensures.reads c.in_ok-source.ensures.reads))));
-  means = same_insert (c.in_ok-table.ensures c.args.self.now.room).means c.in_ok-columns.ensures.means c.in_ok-source.ensures.means;
+  means = same_insert (c.in_ok-table.ensures c.args.self.now.room).means c.in_ok-columns.ensures.means (c.in_ok-source-2.ensures ∙ c.in_ok-source.ensures.means);
 }

@@ -1,3 +1,4 @@
+use Rattle.std.proofs.Common.{◌∙◌}
 use Rattle.ql_syntax.specs.Readings.{pair, both}
 use Rattle.ql_parse.proofs.StepLemmas.{exits}
 use Rattle.ql_parse.proofs.Sequences.{fails_first, fails_second}
@@ -29,5 +30,5 @@ returns g c = record {
       (pair c.in_ok-set.ensures.parse (pair (c.in_ok-expect_word-2.ensures c.args.self.now.room).parse c.in_ok-on.ensures.parse))));
   reads = both (c.in_ok-side.ensures c.args.self.now.room).reads (both (c.eat_word.ensures c.args.self.now.room).reads (both (c.in_ok-expect_word.ensures c.args.self.now.room).reads
       (both c.in_ok-set.ensures.reads (both (c.in_ok-expect_word-2.ensures c.args.self.now.room).reads c.in_ok-on.ensures.reads))));
-  means = same_join (c.in_ok-side.ensures c.args.self.now.room).means c.in_ok-set.ensures.means c.in_ok-on.ensures.means;
+  means = c.in_ok-new.ensures ∙ same_join (c.in_ok-side.ensures c.args.self.now.room).means c.in_ok-set.ensures.means c.in_ok-on.ensures.means;
 }

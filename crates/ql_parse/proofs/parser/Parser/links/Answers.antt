@@ -15,4 +15,4 @@ pub links-preserved : goal.links-preserved
 links-preserved g c = rw c.in_ok-push.ensures.ok (one_more c.links.invariant c.in-Some.ensures.0 (gives_link c.args.level c.in-Some.ensures.0 c.in-Some.ensures.1 c.skip.ensures (c.requires.answers _ _ _ c.in_ok-part.ensures)) first_link)
 
 pub returns : goal.returns
-returns g c = no_more c.links.invariant c.in_default.ensures refl
+returns g c = rw c.shrink_to_fit.ensures (no_more c.links.invariant c.in_default.ensures refl)

@@ -12,11 +12,12 @@ returns-in_err-expect_word g c = exits _ _ _ _ c.from_residual.ensures.1 (fails_
 pub returns-in_err-members : goal.returns-in_err-members
 returns-in_err-members g c = exits _ _ _ _ c.from_residual-in_err-members.ensures.1 (fails_second (c.in_ok-expect_word.ensures _) c.in_err-members.ensures)
 
-pub returns-in-Listed : goal.returns-in-Listed
-returns-in-Listed g c = record {
+pub returns-in_ok-new-in-Listed : goal.returns-in_ok-new-in-Listed
+returns-in_ok-new-in-Listed g c = record {
   parse = pair (c.in_ok-expect_word.ensures c.args.self.now.room).parse (group c.in_ok-members.ensures.parse);
   reads = both (c.in_ok-expect_word.ensures c.args.self.now.room).reads c.in_ok-members.ensures.reads;
-  means = ap (λ q. e.IsIn c.args.not q c.in-Listed.list) c.in_ok-part.ensures ∙ ap (among c.args.part c.args.not) (sym c.in-Listed.is ∙ c.in_ok-members.ensures.means);
+  means = ap (λ q. e.IsIn c.args.not q c.in_ok-new-in-Listed.field-0) c.in_ok-part.ensures ∙ ap (e.IsIn c.args.not c.args.part) c.in_ok-new-in-Listed.ensures
+      ∙ ap (among c.args.part c.args.not) (sym c.in-Listed.is ∙ c.in_ok-members.ensures.means);
 }
 
 pub returns-in_ok-new-in-Query : goal.returns-in_ok-new-in-Query

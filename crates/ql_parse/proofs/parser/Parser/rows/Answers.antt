@@ -20,15 +20,15 @@ returns-then-sees_word g c =
       means = ap rows.Rows c.in_ok-rows.ensures.means;
     }
 
-pub returns-in_err-query : goal.returns-in_err-query
-returns-in_err-query g c = exits _ _ _ _ c.from_residual-in_err-query.ensures.1
-    (fails_right (sym c.sees_word.ensures ∙ c.if-sees_word.false) (sym c.sees_word-2.ensures ∙ c.if-sees_word-2.true) c.in_err-query.ensures)
+pub returns-in_err-boxed_query : goal.returns-in_err-boxed_query
+returns-in_err-boxed_query g c = exits _ _ _ _ c.from_residual-in_err-boxed_query.ensures.1
+    (fails_right (sym c.sees_word.ensures ∙ c.if-sees_word.false) (sym c.sees_word-2.ensures ∙ c.if-sees_word-2.true) c.in_err-boxed_query.ensures)
 
 pub returns-then-sees_word-2 : goal.returns-then-sees_word-2
 returns-then-sees_word-2 g c = record {
-  parse = right c.in_ok-query.ensures.parse;
-  reads = second (sym c.sees_word.ensures ∙ c.if-sees_word.false) (sym c.sees_word-2.ensures ∙ c.if-sees_word-2.true) c.in_ok-query.ensures.reads;
-  means = ap rows.Query c.in_ok-query.ensures.means;
+  parse = right c.in_ok-boxed_query.ensures.parse;
+  reads = second (sym c.sees_word.ensures ∙ c.if-sees_word.false) (sym c.sees_word-2.ensures ∙ c.if-sees_word-2.true) c.in_ok-boxed_query.ensures.reads;
+  means = ap rows.Query c.in_ok-boxed_query.ensures.means;
 }
 
 pub returns : goal.returns

@@ -6,14 +6,14 @@ use Rattle.ql_parse.proofs.Sequences.{fails_left, fails_right, fails_neither}
 use Rattle.ql_parse.proofs.SelectLemmas.{source_tree}
 use Rattle.ql_parse.proofs.parser.Parser.source.Goals as goal
 
-pub returns-in_err-expect_name : goal.returns-in_err-expect_name
-returns-in_err-expect_name g c = exits _ _ _ _ c.from_residual.ensures.1 (fails_left (sym c.sees_name.ensures ∙ c.if-sees_name.true) (c.in_err-expect_name.ensures _))
+pub returns-in_err-expect_boxed_name : goal.returns-in_err-expect_boxed_name
+returns-in_err-expect_boxed_name g c = exits _ _ _ _ c.from_residual.ensures.1 (fails_left (sym c.sees_name.ensures ∙ c.if-sees_name.true) (c.in_err-expect_boxed_name.ensures _))
 
 pub returns-then-sees_name : goal.returns-then-sees_name
 returns-then-sees_name g c = record {
-  parse = left (c.in_ok-expect_name.ensures c.args.self.now.room).parse;
-  reads = first (sym c.sees_name.ensures ∙ c.if-sees_name.true) (c.in_ok-expect_name.ensures c.args.self.now.room).reads;
-  means = ap source.Table (c.in_ok-expect_name.ensures c.args.self.now.room).means;
+  parse = left (c.in_ok-expect_boxed_name.ensures c.args.self.now.room).parse;
+  reads = first (sym c.sees_name.ensures ∙ c.if-sees_name.true) (c.in_ok-expect_boxed_name.ensures c.args.self.now.room).reads;
+  means = ap source.Table (c.in_ok-expect_boxed_name.ensures c.args.self.now.room).means;
 }
 
 pub returns-then-not-sees_mark : goal.returns-then-not-sees_mark

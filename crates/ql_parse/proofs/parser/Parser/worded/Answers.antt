@@ -36,14 +36,14 @@ returns-in-Commit g c = at_commit _ _ _ (c.requires.next ∙ ap (λ a. Some (kin
 pub returns-in-Rollback : goal.returns-in-Rollback
 returns-in-Rollback g c = at_rollback _ _ _ (c.requires.next ∙ ap (λ a. Some (kind.Word a)) c.in-Rollback.is) c.skip-in-Rollback.ensures
 
-pub returns-in_err-query-in-Select : goal.returns-in_err-query-in-Select
-returns-in_err-query-in-Select g c = exits _ _ _ _ c.from_residual.ensures.1
-    (at_query c.args.self.now.room c.args.cursor.now c.query.new.cursor (Err c.in_err-query-in-Select.field-0.0) (c.requires.next ∙ ap (λ a. Some (kind.Word a)) c.in-Select.is) c.in_err-query-in-Select.ensures)
+pub returns-in_err-boxed_query-in-Select : goal.returns-in_err-boxed_query-in-Select
+returns-in_err-boxed_query-in-Select g c = exits _ _ _ _ c.from_residual.ensures.1
+    (at_query c.args.self.now.room c.args.cursor.now c.boxed_query.new.cursor (Err c.in_err-boxed_query-in-Select.field-0.0) (c.requires.next ∙ ap (λ a. Some (kind.Word a)) c.in-Select.is) c.in_err-boxed_query-in-Select.ensures)
 
-pub returns-in_ok-query-in-Select : goal.returns-in_ok-query-in-Select
-returns-in_ok-query-in-Select g c =
-    at_query c.args.self.now.room c.args.cursor.now c.query.new.cursor (Ok (s.Query c.in_ok-query-in-Select.field-0)) (c.requires.next ∙ ap (λ a. Some (kind.Word a)) c.in-Select.is)
-    (record { parse = c.in_ok-query-in-Select.ensures.parse; reads = c.in_ok-query-in-Select.ensures.reads; means = ap s.Query c.in_ok-query-in-Select.ensures.means })
+pub returns-in_ok-boxed_query-in-Select : goal.returns-in_ok-boxed_query-in-Select
+returns-in_ok-boxed_query-in-Select g c =
+    at_query c.args.self.now.room c.args.cursor.now c.boxed_query.new.cursor (Ok (s.Query c.in_ok-boxed_query-in-Select.field-0)) (c.requires.next ∙ ap (λ a. Some (kind.Word a)) c.in-Select.is)
+    (record { parse = c.in_ok-boxed_query-in-Select.ensures.parse; reads = c.in_ok-boxed_query-in-Select.ensures.reads; means = ap s.Query c.in_ok-boxed_query-in-Select.ensures.means })
 
 pub returns-in_default : goal.returns-in_default
 returns-in_default g c =
