@@ -9,8 +9,8 @@ use crate::fault::refused;
 use crate::scope::{Slot, Slots, is_called, refused_at};
 use crate::table::Typing;
 use ql_edge::{Boxed, Bytes, Name, NoMemory};
-use ql_syntax::{ColumnDef, ColumnDefs, FromSet, FromSets, SetSource};
 use ql_rel::{Schema, TableSchema, TableSchemas};
+use ql_syntax::{ColumnDef, ColumnDefs, FromSet, FromSets, SetSource};
 use ql_value::{AMBIGUOUS, Kind, LATER, NO_TABLE};
 use std::alloc::Global;
 

@@ -14,8 +14,8 @@ use crate::scope::{Scope, Slots};
 use crate::shown::{Shown, ShownList, any_aggregate, field_slots, fields_of};
 use crate::table::{Group, among};
 use ql_edge::{Boxed, Names0, NoMemory, Numbers};
-use ql_syntax::{Expr, Exprs, Join, OptTypeds, Select, Typed, TypedRows, Typeds};
 use ql_rel::{Plan, Schema};
+use ql_syntax::{Expr, Exprs, Join, OptTypeds, Select, Typed, TypedRows, Typeds};
 use ql_value::LATER;
 use std::alloc::Global;
 

@@ -6,8 +6,8 @@ ghost use Rattle.ql_check.specs.Gives.{Gives, same};
 use crate::CheckFault;
 use crate::fault::refused;
 use crate::select::select_plan;
-use ql_syntax::Statement;
 use ql_rel::{Plan, Schema};
+use ql_syntax::Statement;
 use ql_value::LATER;
 use std::alloc::Global;
 

@@ -1,7 +1,7 @@
 use super::*;
 use ql_edge::{Boxed, NoMemory};
-use ql_syntax::{Expr, Exprs, Field, Fields, FromSets, Link, Links, Select, Statement, Statements};
 use ql_rel::{Indexes, Schema, TableSchemas};
+use ql_syntax::{Expr, Exprs, Field, Fields, FromSets, Link, Links, Select, Statement, Statements};
 use ql_value::{BinOp, CONSTANT_RANGE, Kind, TYPE};
 use std::alloc::Global;
 use std::test::Fail;

@@ -12,8 +12,8 @@ use Rattle.ql_edge.specs.declared.fault.DeviceFault.TheVariants as device
 use Rattle.ql_shell.specs.Cause.{status_of, stopped_by}
 use Rattle.ql_shell.specs.declared.fault.StepFault.{StepFault}
 use Rattle.ql_shell.specs.declared.fault.StepFault.TheVariants as step
-use Rattle.ql_shell.specs.Pieces.{RunsOn}
-use Rattle.ql_shell.specs.Run.{Gives, IsFinal}
+use Rattle.ql_shell.specs.Pieces.{RunsOn, ShowsText}
+use Rattle.ql_shell.specs.Run.{Gives, IsAddedTo, IsFinal}
 use Rattle.ql_rel.specs.Effect.{effect}
 use Rattle.ql_rel.specs.Tables.{Table, Effect, text_of}
 use Rattle.ql_shell.specs.declared.status.Status.{Status}
@@ -94,6 +94,16 @@ gives_front answer (Usage _) before now h = whole_front _ _ _ h.1
 
 pub gives_warned : (answer : Answer) (s : Status) (before now : Told) → Gives answer s before now → warned_of now ≡ warned_of before
 gives_warned answer s before now h = let f = gives_front answer s before now h in ap warned_of f.told ∙ warned_with_shown (take f.count answer.text) before
+
+-- some of an answer's text was shown, whatever the status
+pub gives_shows : (answer : Answer) (s : Status) (before now : Told) → Gives answer s before now → ShowsText before now
+gives_shows answer s before now h = let f = gives_front answer s before now h in record { text = take f.count answer.text; told = f.told }
+
+pub shows_nothing : (told : Told) → ShowsText told told
+shows_nothing told = record { text = []; told = sym (shown_none told) }
+
+pub shows_added : (before now : Told) → ShowsText before now → IsAddedTo (shown_of before) (shown_of now)
+shows_added before now h = (h.text, ap shown_of h.told ∙ shown_with_shown h.text before)
 
 -- without a fault and want of memory the answer was given whole
 pub gives_whole : (answer : Answer) (s : Status) (before now : Told) → IsFinal s → Gives answer s before now → (s ≡ answer.status) × (now ≡ with_shown answer.text before)

@@ -2,11 +2,10 @@
 use Rattle.std.proofs.Common.{◌≡◌, ℕ, ◌<◌, List, [], length, Option, Some, None, Result, Ok, Err, inl, inr, refl, sym, ap, ◌∙◌, arith}
 use Rattle.ql_edge.specs.Told.{Told, with_shown}
 use Rattle.ql_syntax.specs.declared.statement.Statement.{Statement}
-use Rattle.ql_shell.specs.Comes.{Comes, too_long, bad_byte, bad_literal, unclosed, unexpected, too_nested, read, read_as}
+use Rattle.ql_shell.specs.Comes.{Comes, too_long, bad_byte, bad_literal, unclosed, unexpected, too_nested, read, read_as, longest_script}
 use Rattle.ql_rel.specs.Meaning.{meaning}
 use Rattle.ql_shell.specs.Meaning.{Answer, answered, answer_of, told_script, Means, usage, script}
 use Rattle.ql_shell.specs.Run.{Gives, IsFinal, IsUnread, IsScript, IsTooLong, EndsEarly, TellsScript}
-use Rattle.ql_shell.specs.declared.script_run.TheConstants.{SCRIPT_LIMIT}
 use Rattle.ql_shell.specs.declared.status.ScriptFault.{ScriptFault}
 use Rattle.ql_shell.specs.declared.status.ScriptFault.TheVariants as fault
 use Rattle.ql_shell.specs.declared.status.Status.{Status}
@@ -45,7 +44,7 @@ gives_script asked input source answer s before now is gives (script {source = t
     rw a (gives outcome here)
 
 -- a script that is too long comes to that alone
-too_long_alone : (source : List ℕ) (outcome : Result (List Statement) ScriptFault) → SCRIPT_LIMIT < length source → Comes source outcome → outcome ≡ Err fault.TooLong
+too_long_alone : (source : List ℕ) (outcome : Result (List Statement) ScriptFault) → longest_script < length source → Comes source outcome → outcome ≡ Err fault.TooLong
 too_long_alone source _ long (too_long _) = refl
 too_long_alone source _ long (bad_byte within _) = absurd (omega arith)
 too_long_alone source _ long (bad_literal within _) = absurd (omega arith)
@@ -54,7 +53,7 @@ too_long_alone source _ long (unexpected within _ _) = absurd (omega arith)
 too_long_alone source _ long (too_nested within _ _) = absurd (omega arith)
 too_long_alone source _ long (read within _ _) = absurd (omega arith)
 
-told_too_long : (asked : Command) (input : Option (List ℕ)) (text : List ℕ) → IsTooLong asked input → told_script asked input ≡ Some text → SCRIPT_LIMIT < length text
+told_too_long : (asked : Command) (input : Option (List ℕ)) (text : List ℕ) → IsTooLong asked input → told_script asked input ≡ Some text → longest_script < length text
 told_too_long (command.Usage _) input text long told = absurd long
 told_too_long (command.Text t) input text long told = let same : t ≡ text = cc in rw same at long
 told_too_long command.Input None text long told = cc

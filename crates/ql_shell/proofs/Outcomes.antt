@@ -11,15 +11,14 @@ use Rattle.ql_syntax.specs.Lexemes.{lexemes}
 use Rattle.ql_syntax.specs.Scripts.{IsUnexpected, IsTooNested}
 use Rattle.ql_syntax.specs.Statements.{IsRead}
 use Rattle.ql_shell.specs.Cause.{status_of_lexing, status_of_parsing}
-use Rattle.ql_shell.specs.Comes.{Comes, too_long, bad_byte, bad_literal, unclosed, unexpected, too_nested, read, read_as, place_of}
-use Rattle.ql_shell.specs.declared.script_run.TheConstants.{SCRIPT_LIMIT}
+use Rattle.ql_shell.specs.Comes.{Comes, too_long, bad_byte, bad_literal, unclosed, unexpected, too_nested, read, read_as, place_of, longest_script}
 use Rattle.ql_shell.specs.declared.status.ScriptFault.{ScriptFault}
 use Rattle.ql_shell.specs.declared.status.ScriptFault.TheVariants as fault
 use Rattle.ql_shell.specs.declared.status.Status.{Status}
 use Rattle.ql_shell.specs.declared.status.Status.TheVariants.{Script, NoMemory}
 
 -- a fault of the lexer is the script's
-pub lexing_fault : (source : List ℕ) (f : LexFault) (g : ScriptFault) → length source ≤ SCRIPT_LIMIT → (f ≢ lex.NoMemory → Reads source (Err f))
+pub lexing_fault : (source : List ℕ) (f : LexFault) (g : ScriptFault) → length source ≤ longest_script → (f ≢ lex.NoMemory → Reads source (Err f))
     → status_of_lexing f ≡ Script g → Comes source (Err g)
 lexing_fault source (lex.BadByte at) g within reads e =
     let other : lex.BadByte at ≢ lex.NoMemory = λ same. cc in
@@ -56,7 +55,7 @@ no_tokens f ts answer (inl e) = cc
 no_tokens f ts answer (inr e) = no_memory f answer (cc)
 
 -- the answer where the lexer gave a fault
-pub lexing_only : (source : List ℕ) (f : LexFault) (outcome : Result (List Statement) ScriptFault) → length source ≤ SCRIPT_LIMIT
+pub lexing_only : (source : List ℕ) (f : LexFault) (outcome : Result (List Statement) ScriptFault) → length source ≤ longest_script
     → ((o : Outcome) → Reads source o → IsLexed (Err f) o) → Comes source outcome → IsAnswer (Err (status_of_lexing f)) (read_as outcome)
 lexing_only source f _ within only (too_long long) = absurd (omega arith)
 lexing_only source f _ within only (bad_byte {at = at} _ reads) = one_fault f (lex.BadByte at) (only (Err (lex.BadByte at)) reads)
@@ -67,7 +66,7 @@ lexing_only source f _ within only (too_nested {ts = ts} _ reads _) = no_tokens 
 lexing_only source f _ within only (read {ts = ts} _ reads _) = no_tokens f ts _ (only (Ok ts) reads)
 
 -- a fault of the parser is the script's
-pub parsing_fault : (source : List ℕ) (ts : List Token) (f : ParseFault) (g : ScriptFault) → length source ≤ SCRIPT_LIMIT → Reads source (Ok ts)
+pub parsing_fault : (source : List ℕ) (ts : List Token) (f : ParseFault) (g : ScriptFault) → length source ≤ longest_script → Reads source (Ok ts)
     → ((i : ℕ) → f ≡ parse.Unexpected i → IsUnexpected (lexemes source ts) i) → ((i : ℕ) → f ≡ parse.TooNested i → IsTooNested (lexemes source ts) i)
     → status_of_parsing source ts f ≡ Script g → Comes source (Err g)
 parsing_fault source ts (parse.Unexpected i) g within reads at over e =
@@ -94,7 +93,7 @@ no_fault ts f (inl e) = cc
 no_fault ts f (inr e) = cc
 
 -- the answer where the lexer gave tokens
-pub parsing_only : (source : List ℕ) (ts : List Token) (r : Result (List Statement) ParseFault) (outcome : Result (List Statement) ScriptFault) → length source ≤ SCRIPT_LIMIT
+pub parsing_only : (source : List ℕ) (ts : List Token) (r : Result (List Statement) ParseFault) (outcome : Result (List Statement) ScriptFault) → length source ≤ longest_script
     → ((o : Outcome) → Reads source o → IsLexed (Ok ts) o)
     → ((ss : List Statement) → IsRead (lexemes source ts) ss → IsParsed r (Ok ss))
     → ((i : ℕ) → IsUnexpected (lexemes source ts) i → IsParsed r (Err (parse.Unexpected i)))

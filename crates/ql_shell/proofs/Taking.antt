@@ -2,11 +2,11 @@
 use Rattle.std.proofs.Common.{◌≡◌, ℕ, ◌+◌, ◌≤◌, List, [], ◌++◌, length, take, drop, Option, Some, None, Result, Ok, Err, IfErr, IsErrAnd, ◌⊎◌, inl, inr, IfSome, option_map, refl, sym, ap, ◌∙◌, append_assoc, length-append, append-nil, drop-drop, arith}
 use Rattle.std.proofs.lemmas.List.{take-append-drop, drop_all}
 use Rattle.std.proofs.Math.Seq.{drop-append_seam}
-use Rattle.ql_shell.specs.Run.{AddsPiece, Takes, TakesAll, TakesInput, EndsScript}
+use Rattle.ql_shell.specs.Comes.{longest_script}
+use Rattle.ql_shell.specs.Run.{AddsPiece, Takes, TakesAll, TakesAtMost, TakesInput, EndsScript}
 use Rattle.ql_shell.specs.declared.status.Status.{Status}
 use Rattle.ql_shell.specs.declared.status.Status.TheVariants.{Done, Script, Refused, Usage, Fault, NoMemory}
 use Rattle.ql_shell.specs.declared.status.ScriptFault.TheVariants.{TooLong, BadByte, BadLiteral, Unclosed, Unexpected, TooNested}
-use Rattle.ql_shell.specs.declared.script_run.TheConstants.{SCRIPT_LIMIT}
 use Rattle.ql_shell.specs.declared.words.Command.{Command}
 use Rattle.ql_shell.specs.declared.words.Command.TheVariants as command
 
@@ -52,16 +52,27 @@ pub dropped_twice : (k n : ℕ) (before mid now : Option (List ℕ)) → mid ≡
 dropped_twice k n None mid now e f = (0, f ∙ ap (option_map (drop n)) e)
 dropped_twice k n (Some script) mid now e f = (k + n, f ∙ ap (option_map (drop n)) e ∙ ap Some (drop-drop n k script))
 
+drop_none : (before : Option (List ℕ)) → option_map (drop 0) before ≡ before
+drop_none None = refl
+drop_none (Some script) = refl
+
+-- so much more was taken of what was left
+pub takes_more : (k n most : ℕ) (before mid now : Option (List ℕ)) → mid ≡ option_map (drop k) before → k + n ≤ most → now ≡ option_map (drop n) mid → TakesAtMost most before now
+takes_more k n most None mid now e within f = (0, omega arith, f ∙ ap (option_map (drop n)) e)
+takes_more k n most (Some script) mid now e within f = (k + n, within, f ∙ ap (option_map (drop n)) e ∙ ap Some (drop-drop n k script))
+
+pub takes_some : (n most : ℕ) (before now : Option (List ℕ)) → now ≡ option_map (drop n) before → n ≤ most → TakesAtMost most before now
+takes_some n most before now e within = (n, within, e)
+
+pub takes_nothing : (most : ℕ) (before now : Option (List ℕ)) → now ≡ before → TakesAtMost most before now
+takes_nothing most before now e = (0, omega arith, e ∙ sym (drop_none before))
+
 -- a fault or want of memory says only that some of the script was taken
 pub takes_part : {T : Type 0} (r : Result T Status) (s : Status) (before now : Option (List ℕ)) → IsErrAnd r (λ e. e ≡ s) → (s ≡ Fault) ⊎ (s ≡ NoMemory)
     → (n : ℕ) × (now ≡ option_map (drop n) before) → IfErr r (λ e. TakesInput e before now)
 takes_part (Ok _) s before now is which part = absurd is
 takes_part (Err e) s before now is (inl fault) part = let same : e ≡ Fault = is ∙ fault in rw same part
 takes_part (Err e) s before now is (inr memory) part = let same : e ≡ NoMemory = is ∙ memory in rw same part
-
-drop_none : (before : Option (List ℕ)) → option_map (drop 0) before ≡ before
-drop_none None = refl
-drop_none (Some script) = refl
 
 drop_whole : (before now : Option (List ℕ)) → now ≡ option_map (λ _. []) before → (n : ℕ) × (now ≡ option_map (drop n) before)
 drop_whole None now h = (0, h)
@@ -72,7 +83,7 @@ input_memory : (s : Status) (before now : Option (List ℕ)) → TakesInput s be
 input_memory Fault before now h = h
 input_memory NoMemory before now h = h
 input_memory (Usage _) before now h = (0, h ∙ sym (drop_none before))
-input_memory (Script TooLong) before now h = (SCRIPT_LIMIT + 1, h)
+input_memory (Script TooLong) before now h = (longest_script + 1, h)
 input_memory (Script (BadByte _)) before now h = drop_whole before now h
 input_memory (Script (BadLiteral _)) before now h = drop_whole before now h
 input_memory (Script (Unclosed _)) before now h = drop_whole before now h

@@ -9,6 +9,11 @@ pub record HoldsBack (text : List ℕ) (before now : Told) (held : List ℕ) : T
   pub told : now ≡ with_shown done before
   pub whole : text ≡ done ++ held
 
+-- some text was shown, and nothing else
+pub record ShowsText (before now : Told) : Type 0 where
+  pub text : List ℕ
+  pub told : now ≡ with_shown text before
+
 -- a front of what statements mean was shown, and this is left of it
 pub record RunsOn (all : Meaning) (before now : Told) (left : Meaning) : Type 0 where
   pub done : List ℕ

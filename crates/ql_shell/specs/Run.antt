@@ -2,9 +2,9 @@
 use Rattle.std.specs.Prelude.{◌≡◌, ◌⊎◌, ℕ, ◌+◌, ◌-◌, ◌^◌, ◌<◌, ◌≤◌, min, List, [], ◌++◌, length, take, drop, Option, option_map, IfSome, IsSome}
 use Rattle.ql_edge.specs.Cause.{Rose}
 use Rattle.ql_edge.specs.Told.{Told, with_shown, ShowsFront}
+use Rattle.ql_shell.specs.Comes.{longest_script}
 use Rattle.ql_shell.specs.Line.{line_of}
 use Rattle.ql_shell.specs.Meaning.{Answer}
-use Rattle.ql_shell.specs.declared.script_run.TheConstants.{SCRIPT_LIMIT}
 use Rattle.ql_shell.specs.declared.status.ScriptFault.TheVariants.{TooLong}
 use Rattle.ql_shell.specs.declared.status.Status.{Status}
 use Rattle.ql_shell.specs.declared.status.Status.TheVariants.{Done, Script, Usage, Fault, NoMemory}
@@ -51,6 +51,10 @@ Warns status before now faults faults_now = WarnsLine status before now faults f
 abbrev pub IsFrontShown : List ℕ → Option (List ℕ) → Option (List ℕ) → Type 0
 IsFrontShown text before now = (n : ℕ) × (n ≤ length text) × (now ≡ option_map (λ shown. shown ++ take n text) before)
 
+-- what was shown before is a front of what is shown now
+abbrev pub IsAddedTo : Option (List ℕ) → Option (List ℕ) → Type 0
+IsAddedTo before now = (text : List ℕ) × (now ≡ option_map (λ shown. shown ++ text) before)
+
 -- the whole text was shown, and nothing else
 abbrev pub IsShown : List ℕ → Option (List ℕ) → Option (List ℕ) → Type 0
 IsShown text before now = now ≡ option_map (λ shown. shown ++ text) before
@@ -81,8 +85,8 @@ IsScript command.Input input source = input ≡ option_map (λ _. source) input
 -- the script is longer than a script may be
 abbrev pub IsTooLong : Command → Option (List ℕ) → Type 0
 IsTooLong (command.Usage _) input = ⊥
-IsTooLong (command.Text text) input = SCRIPT_LIMIT < length text
-IsTooLong command.Input input = IfSome input (λ script. SCRIPT_LIMIT < length script)
+IsTooLong (command.Text text) input = longest_script < length text
+IsTooLong command.Input input = IfSome input (λ script. longest_script < length script)
 
 -- what may end a run before there is a script: a word, the script's length, a device's fault, or want of memory
 abbrev pub EndsEarly : Command → Option (List ℕ) → Status → Type 0
@@ -101,10 +105,14 @@ EndsScript _ = Unit {0}
 -- how much of standard input was read for a script: all of it, but for one that is too long, a fault and want of memory
 abbrev pub TakesInput : Status → Option (List ℕ) → Option (List ℕ) → Type 0
 TakesInput (Usage _) before now = now ≡ before
-TakesInput (Script TooLong) before now = now ≡ option_map (drop (SCRIPT_LIMIT + 1)) before
+TakesInput (Script TooLong) before now = now ≡ option_map (drop (longest_script + 1)) before
 TakesInput Fault before now = (n : ℕ) × (now ≡ option_map (drop n) before)
 TakesInput NoMemory before now = (n : ℕ) × (now ≡ option_map (drop n) before)
 TakesInput _ before now = now ≡ option_map (λ _. []) before
+
+-- so many bytes of standard input were read at most
+abbrev pub TakesAtMost : ℕ → Option (List ℕ) → Option (List ℕ) → Type 0
+TakesAtMost most before now = (n : ℕ) × (n ≤ most) × (now ≡ option_map (drop n) before)
 
 -- standard input is read only where the script comes from there
 abbrev pub Takes : Command → Status → Option (List ℕ) → Option (List ℕ) → Type 0

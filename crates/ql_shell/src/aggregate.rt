@@ -1,3 +1,4 @@
+//! Whether an aggregate is called in an expression.
 ghost use Rattle.std.specs.Prelude.{◌≡◌, map};
 ghost use Rattle.ql_rel.specs.Aggregates as spec;
 ghost use Rattle.ql_syntax.specs.declared.syntax.Field.{out-Field};
@@ -12,7 +13,7 @@ fn calls_aggregate(expr: &Expr) -> bool
 {
     match expr {
         Expr::Chain { first, rest } => calls_aggregate(first.get())
-            || any_link_calls_aggregate(rest),
+            || any_link_calls_aggregate(rest.get()),
         Expr::Unary { part, .. } => calls_aggregate(part.get()),
         Expr::Number(_) => false,
         Expr::Text(_) => false,
@@ -26,7 +27,7 @@ fn calls_aggregate(expr: &Expr) -> bool
             ..
         } => is_aggregate(*function) || any_calls_aggregate(parts),
         Expr::Convert { part, .. } => calls_aggregate(part.get()),
-        Expr::IsIn { part, list, .. } => calls_aggregate(part.get()) || any_calls_aggregate(list),
+        Expr::IsIn { part, list, .. } => calls_aggregate(part.get()) || any_calls_aggregate(list.get()),
         Expr::IsInSelect { part, .. } => calls_aggregate(part.get()),
         Expr::IsBetween {
             part,

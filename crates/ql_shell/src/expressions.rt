@@ -1,3 +1,4 @@
+//! A SELECT of expressions that sees no table.
 ghost use Rattle.std.specs.Prelude.{◌≡◌, ◌++◌, [], IfOk, OnOk};
 ghost use Rattle.ql_syntax.specs.Typing.{WellTyped, type_of};
 ghost use Rattle.ql_syntax.specs.Values.{value_at};

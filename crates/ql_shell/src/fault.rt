@@ -1,3 +1,4 @@
+//! Why a statement was not carried out.
 ghost use Rattle.std.specs.Prelude.{◌≡◌, [], ◌⊎◌};
 ghost use Rattle.ql_edge.specs.declared.fault.DeviceFault.TheVariants as device;
 ghost use Rattle.ql_shell.specs.declared.fault.StepFault.TheVariants as step;

@@ -1,9 +1,10 @@
+//! Which statements are carried out, by their trees.
 ghost use Rattle.std.specs.Prelude.{◌≡◌, ◌≢◌, List, MatchOption, IfOk, None, Some, option_map};
 ghost use Rattle.ql_syntax.specs.declared.syntax.SetSource.{out-SetSource};
 ghost use Rattle.ql_rel.specs.Forms as spec;
 
 use crate::aggregate::any_field_calls_aggregate;
-use ql_edge::{Name, Names, NoMemory, Numbers};
+use ql_edge::{Boxed, Name, Names, NoMemory, Numbers};
 use ql_syntax::{ColumnDef, ColumnDefs, Expr, Exprs, FromSet, FromSets, RowSource, Select, SetSource, Statement};
 use ql_value::Kind;
 use std::alloc::Global;
@@ -105,12 +106,12 @@ fn source_table(source: &SetSource) -> Option<&Name>
     ensures { option_map (λ n. n.now) result ≡ spec.source_table (out-SetSource source.now) }
 {
     match source {
-        SetSource::Table(name) => own_name(name),
+        SetSource::Table(name) => own_name(name.get()),
         SetSource::Query(_) => None,
     }
 }
 
-fn set_table<'a>(source: &'a SetSource, alias: &Option<Name>) -> Option<&'a Name>
+fn set_table<'a>(source: &'a SetSource, alias: &Option<Boxed<Name>>) -> Option<&'a Name>
     ensures { option_map (λ n. n.now) result ≡ spec.set_table source.now alias.now }
 {
     match alias {
@@ -175,7 +176,7 @@ pub fn is_of_expressions(statement: &Statement) -> bool
     ensures { result ≡ spec.is_of_expressions statement.now }
 {
     match statement {
-        Statement::Query(select) => is_of_fields(select),
+        Statement::Query(select) => is_of_fields(select.get()),
         _ => false,
     }
 }

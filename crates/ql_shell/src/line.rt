@@ -1,5 +1,7 @@
+//! The line that is warned for each way in which a run may end.
 ghost use Rattle.std.specs.Prelude.{◌≡◌, ◌⊎◌, ℕ, ◌<◌, ◌++◌, length, take, Err, OnOk, decimal};
 ghost use Rattle.ql_edge.specs.Cause.{IsCaused};
+ghost use Rattle.ql_edge.specs.Frame.{Keeps};
 ghost use Rattle.ql_edge.specs.Told.{with_warned, shown_of, warned_of};
 ghost use Rattle.ql_edge.specs.declared.fault.DeviceFault.TheVariants as device;
 ghost use Rattle.ql_shell.specs.Run.{WarnsLine};
@@ -23,7 +25,7 @@ fn add_refusal(refusal: &Refusal, out: &mut Bytes) -> Result<(), NoMemory>
     add_number(u64::from(refusal.number), out)?;
     out.extend(b" ")?;
     out.extend(refusal.word())?;
-    if refusal.name.len() > 0 {
+    if !refusal.name.is_empty() {
         out.extend(b" ")?;
         out.extend(refusal.name.as_slice())?;
     }
@@ -93,8 +95,7 @@ fn warn_made_line<M: Shows>(
     ensures whole { OnOk result (M.told machine.new ≡ with_warned (line_of status.now) (M.told machine.old)) }
     ensures part { result ≡ Err device.Failed → (n : ℕ) × (n < length (line_of status.now)) × (M.told machine.new ≡ with_warned (take n (line_of status.now)) (M.told machine.old)) }
     ensures shown { shown_of (M.told machine.new) ≡ shown_of (M.told machine.old) }
-    ensures left { M.left machine.new ≡ M.left machine.old }
-    ensures fixed { M.fixed machine.new ≡ M.fixed machine.old }
+    ensures frame { Keeps M.left M.fixed machine.old machine.new }
     ensures cause { IsCaused result (M.faults machine.old) (M.faults machine.new) }
 {
     let mut line = Bytes::new(alloc);
@@ -106,8 +107,7 @@ fn warn_line<M: Shows>(alloc: Global, machine: &mut M, status: &Status) -> Resul
     ensures whole { OnOk result (M.told machine.new ≡ with_warned (line_of status.now) (M.told machine.old)) }
     ensures part { result ≡ Err device.Failed → (n : ℕ) × (n < length (line_of status.now)) × (M.told machine.new ≡ with_warned (take n (line_of status.now)) (M.told machine.old)) }
     ensures shown { shown_of (M.told machine.new) ≡ shown_of (M.told machine.old) }
-    ensures left { M.left machine.new ≡ M.left machine.old }
-    ensures fixed { M.fixed machine.new ≡ M.fixed machine.old }
+    ensures frame { Keeps M.left M.fixed machine.old machine.new }
     ensures cause { IsCaused result (M.faults machine.old) (M.faults machine.new) }
 {
     match status {
@@ -122,8 +122,7 @@ pub fn warn<M: Shows>(alloc: Global, machine: &mut M, status: Status) -> Status
     ensures same { (result ≡ status) ⊎ (result ≡ ended.NoMemory) }
     ensures warned { WarnsLine result (warned_of (M.told machine.old)) (warned_of (M.told machine.new)) (M.faults machine.old) (M.faults machine.new) }
     ensures shown { shown_of (M.told machine.new) ≡ shown_of (M.told machine.old) }
-    ensures left { M.left machine.new ≡ M.left machine.old }
-    ensures fixed { M.fixed machine.new ≡ M.fixed machine.old }
+    ensures frame { Keeps M.left M.fixed machine.old machine.new }
 {
     match warn_line(alloc, machine, &status) {
         Ok(()) => status,

@@ -1,21 +1,24 @@
-ghost use Rattle.std.specs.Prelude.{◌≡◌, ◌⊎◌, ◌≤◌, List, Result, Ok, Err, IfOk, IfErr, length, map, get_or};
+//! From the bytes of a script to its statements.
+ghost use Rattle.std.specs.Prelude.{◌≡◌, ◌⊎◌, ◌≤◌, List, Result, Ok, Err, IfOk, IfErr, length};
+ghost use Rattle.ql_lex.specs.Tokens.{Reads};
+ghost use Rattle.ql_lex.specs.declared.token.Token.{Token};
 ghost use Rattle.ql_syntax.specs.declared.statement.Statement.{Statement};
 ghost use Rattle.ql_shell.specs.Cause.{status_of_lexing, status_of_parsing};
 ghost use Rattle.ql_shell.specs.Comes as spec;
-ghost use Rattle.ql_shell.specs.Comes.{Comes, read_as};
+ghost use Rattle.ql_shell.specs.Comes.{Comes, longest_script, read_as};
 ghost use Rattle.ql_shell.specs.Run.{IsUnread};
-ghost use Rattle.ql_shell.specs.declared.script_run.TheConstants.{SCRIPT_LIMIT};
 ghost use Rattle.ql_shell.specs.declared.status.ScriptFault.{ScriptFault};
 ghost use Rattle.ql_shell.specs.declared.status.Status.TheVariants as status;
 
 use crate::status::{ScriptFault, Status};
+use ql_edge::NoMemory;
 use ql_lex::{LexFault, Tokens, tokens};
 use ql_parse::{ParseFault, script};
 use ql_syntax::Statements;
 use std::alloc::Global;
 
 /// The status of a run whose script has no tokens.
-fn lexing_stopped(fault: LexFault) -> Status
+fn lexing_status(fault: LexFault) -> Status
     ensures { result ≡ status_of_lexing fault }
 {
     match fault {
@@ -36,37 +39,48 @@ fn place_of(source: &[u8], tokens: &Tokens, at: u64) -> u64
     }
 }
 
-/// The status of a run whose script has tokens and no statements.
-fn parsing_stopped(source: &[u8], tokens: &Tokens, fault: ParseFault) -> Status
-    ensures { result ≡ status_of_parsing source.now tokens.now fault }
+/// The place of the token with this number in a source that has tokens.
+///
+/// Reading lets the tokens go, so the source is cut into tokens once more, which only want of memory can stop.
+fn find_place(alloc: Global, source: &[u8], at: u64) -> Result<u64, NoMemory>
+    ensures { (ts : List Token) → Reads source.now (Ok ts)
+        → IfOk result (λ place. place ≡ spec.place_of source.now ts at) }
+{
+    match tokens(alloc, source) {
+        Ok(tokens) => Ok(place_of(source, &tokens, at)),
+        Err(_) => Err(NoMemory),
+    }
+}
+
+/// The fault of a script that has tokens and no statements.
+fn parsing_fault(alloc: Global, source: &[u8], fault: ParseFault) -> Result<ScriptFault, NoMemory>
+    ensures { (ts : List Token) → Reads source.now (Ok ts)
+        → IfOk result (λ f. status_of_parsing source.now ts fault ≡ status.Script f) }
 {
     match fault {
-        ParseFault::Unexpected(at) => {
-            Status::Script(ScriptFault::Unexpected(place_of(source, tokens, at)))
-        }
-        ParseFault::TooNested(at) => {
-            Status::Script(ScriptFault::TooNested(place_of(source, tokens, at)))
-        }
-        ParseFault::NoMemory => Status::NoMemory,
+        ParseFault::Unexpected(at) => Ok(ScriptFault::Unexpected(find_place(alloc, source, at)?)),
+        ParseFault::TooNested(at) => Ok(ScriptFault::TooNested(find_place(alloc, source, at)?)),
+        ParseFault::NoMemory => Err(NoMemory),
     }
 }
 
 /// Reads the statements of a script that is not too long.
 pub fn read_statements(alloc: Global, source: &[u8]) -> Result<Statements, Status>
-    requires { length source.now ≤ SCRIPT_LIMIT }
+    requires { length source.now ≤ longest_script }
     ensures read { IfOk result (λ ss. Comes source.now (Ok ss)) }
     ensures fault { (f : ScriptFault) → result ≡ Err (status.Script f) → Comes source.now (Err f) }
     ensures unread { IfErr result IsUnread }
 
     // What the script comes to is the answer, unless memory runs out.
-    ensures only { (outcome : Result (List Statement) ScriptFault) → Comes source.now outcome → (result ≡ read_as outcome) ⊎ (result ≡ Err status.NoMemory) }
+    ensures only { (outcome : Result (List Statement) ScriptFault) → Comes source.now outcome
+        → (result ≡ read_as outcome) ⊎ (result ≡ Err status.NoMemory) }
 {
     let tokens = match tokens(alloc, source) {
         Ok(tokens) => tokens,
-        Err(fault) => return Err(lexing_stopped(fault)),
+        Err(fault) => return Err(lexing_status(fault)),
     };
-    match script(alloc, source, &tokens) {
+    match script(alloc, source, tokens) {
         Ok(statements) => Ok(statements),
-        Err(fault) => Err(parsing_stopped(source, &tokens, fault)),
+        Err(fault) => Err(Status::Script(parsing_fault(alloc, source, fault)?)),
     }
 }

@@ -1,7 +1,9 @@
+//! The script on standard input.
 ghost use Rattle.std.specs.Prelude.{◌≡◌, ◌⊎◌, ℕ, ◌+◌, ◌<◌, ◌≤◌, [], true, false, length, drop, option_map, Err, IfOk, OnOk, OnErr, IfErr, IfSome};
+ghost use Rattle.ql_edge.specs.Frame.{Keeps};
 ghost use Rattle.ql_shell.specs.Cause.{IsCausedReading};
-ghost use Rattle.ql_shell.specs.Run.{AddsPiece, TakesInput, IsReadingFault};
-ghost use Rattle.ql_shell.specs.declared.script_run.TheConstants.{SCRIPT_LIMIT};
+ghost use Rattle.ql_shell.specs.Comes.{longest_script};
+ghost use Rattle.ql_shell.specs.Run.{AddsPiece, TakesInput, TakesAtMost, IsReadingFault};
 ghost use Rattle.ql_shell.specs.declared.status.ScriptFault.TheVariants.{TooLong};
 ghost use Rattle.ql_shell.specs.declared.status.Status.TheVariants as status;
 
@@ -30,10 +32,9 @@ fn read_piece<M: Machine>(
     ensures within { length source.new ≤ length source.old + length buffer.old }
     ensures piece { IfOk result (λ more. more ≡ true → AddsPiece source.old source.new (M.left machine.old) (M.left machine.new)) }
     ensures end { IfOk result (λ more. more ≡ false → (source.new ≡ source.old) × (M.left machine.new ≡ M.left machine.old) × IfSome (M.left machine.old) (λ rest. rest ≡ [])) }
-    ensures takes { OnErr result ((n : ℕ) × (M.left machine.new ≡ option_map (drop n) (M.left machine.old))) }
+    ensures takes { OnErr result (TakesAtMost (length buffer.old) (M.left machine.old) (M.left machine.new)) }
     ensures only { IfErr result (λ s. (s ≡ status.Fault) ⊎ (s ≡ status.NoMemory)) }
-    ensures told { M.told machine.new ≡ M.told machine.old }
-    ensures fixed { M.fixed machine.new ≡ M.fixed machine.old }
+    ensures frame { Keeps M.told M.fixed machine.old machine.new }
     ensures cause { IsCausedReading result (M.faults machine.old) (M.faults machine.new) }
 {
     let taken = machine.read(buffer)?;
@@ -52,13 +53,13 @@ fn read_pieces<M: Machine>(
     requires some { 0 < length buffer.old }
     requires empty { source.old ≡ [] }
     ensures whole { OnOk result (M.left machine.old ≡ option_map (λ _. source.new) (M.left machine.old)) }
-    ensures within { OnOk result (length source.new ≤ SCRIPT_LIMIT) }
+    ensures within { OnOk result (length source.new ≤ longest_script) }
     ensures end { OnOk result (M.left machine.new ≡ option_map (λ _. []) (M.left machine.old)) }
-    ensures too_long { result ≡ Err (status.Script TooLong) → IfSome (M.left machine.old) (λ script. SCRIPT_LIMIT < length script) }
+    ensures too_long { result ≡ Err (status.Script TooLong) → IfSome (M.left machine.old) (λ script. longest_script < length script) }
     ensures takes { IfErr result (λ s. TakesInput s (M.left machine.old) (M.left machine.new)) }
+    ensures most { TakesAtMost (longest_script + 1) (M.left machine.old) (M.left machine.new) }
     ensures only { IfErr result IsReadingFault }
-    ensures told { M.told machine.new ≡ M.told machine.old }
-    ensures fixed { M.fixed machine.new ≡ M.fixed machine.old }
+    ensures frame { Keeps M.told M.fixed machine.old machine.new }
     ensures cause { IsCausedReading result (M.faults machine.old) (M.faults machine.new) }
 {
     'pieces: while source.len() <= SCRIPT_LIMIT {
@@ -74,13 +75,13 @@ fn read_pieces<M: Machine>(
 /// Reads the script to its end, or to the first byte over the limit.
 pub fn read_script<M: Machine>(alloc: Global, machine: &mut M) -> Result<Bytes, Status>
     ensures whole { IfOk result (λ source. M.left machine.old ≡ option_map (λ _. source) (M.left machine.old)) }
-    ensures within { IfOk result (λ source. length source ≤ SCRIPT_LIMIT) }
+    ensures within { IfOk result (λ source. length source ≤ longest_script) }
     ensures end { OnOk result (M.left machine.new ≡ option_map (λ _. []) (M.left machine.old)) }
-    ensures too_long { result ≡ Err (status.Script TooLong) → IfSome (M.left machine.old) (λ script. SCRIPT_LIMIT < length script) }
+    ensures too_long { result ≡ Err (status.Script TooLong) → IfSome (M.left machine.old) (λ script. longest_script < length script) }
     ensures takes { IfErr result (λ s. TakesInput s (M.left machine.old) (M.left machine.new)) }
+    ensures most { TakesAtMost (longest_script + 1) (M.left machine.old) (M.left machine.new) }
     ensures only { IfErr result IsReadingFault }
-    ensures told { M.told machine.new ≡ M.told machine.old }
-    ensures fixed { M.fixed machine.new ≡ M.fixed machine.old }
+    ensures frame { Keeps M.told M.fixed machine.old machine.new }
     ensures cause { IsCausedReading result (M.faults machine.old) (M.faults machine.new) }
 {
     let mut source = Bytes::new(alloc);

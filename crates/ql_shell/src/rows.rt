@@ -1,5 +1,7 @@
+//! Rows of numbers, as they are shown.
 ghost use Rattle.std.specs.Prelude.{◌≡◌, ◌++◌, OnOk, OnErr, flat_map};
 ghost use Rattle.ql_edge.specs.Cause.{IsCaused};
+ghost use Rattle.ql_edge.specs.Frame.{Keeps};
 ghost use Rattle.ql_edge.specs.Told.{with_shown, ShowsFront};
 ghost use Rattle.ql_shell.specs.Pieces.{HoldsBack};
 ghost use Rattle.ql_rel.specs.Tables.{row_text, lines};
@@ -23,8 +25,7 @@ fn add_row(number: u64, out: &mut Bytes) -> Result<(), NoMemory>
 fn show_row<M: Shows>(machine: &mut M, held: &mut Bytes, number: u64) -> Result<(), DeviceFault>
     ensures ok { OnOk result (HoldsBack (held.old ++ row_text number) (M.told machine.old) (M.told machine.new) held.new) }
     ensures refused { OnErr result (ShowsFront (held.old ++ row_text number) (M.told machine.old) (M.told machine.new)) }
-    ensures left { M.left machine.new ≡ M.left machine.old }
-    ensures fixed { M.fixed machine.new ≡ M.fixed machine.old }
+    ensures frame { Keeps M.left M.fixed machine.old machine.new }
     ensures cause { IsCaused result (M.faults machine.old) (M.faults machine.new) }
 {
     add_row(number, held)?;
@@ -44,8 +45,7 @@ fn show_numbers<M: Shows>(
 ) -> Result<(), DeviceFault>
     ensures ok { OnOk result (HoldsBack (held.old ++ lines numbers.now) (M.told machine.old) (M.told machine.new) held.new) }
     ensures refused { OnErr result (ShowsFront (held.old ++ lines numbers.now) (M.told machine.old) (M.told machine.new)) }
-    ensures left { M.left machine.new ≡ M.left machine.old }
-    ensures fixed { M.fixed machine.new ≡ M.fixed machine.old }
+    ensures frame { Keeps M.left M.fixed machine.old machine.new }
     ensures cause { IsCaused result (M.faults machine.old) (M.faults machine.new) }
 {
     for number in numbers {
@@ -62,8 +62,7 @@ pub fn show_rows<M: Shows>(
 ) -> Result<(), DeviceFault>
     ensures ok { OnOk result (M.told machine.new ≡ with_shown (lines (flat_map (λ piece. piece) pieces.now)) (M.told machine.old)) }
     ensures refused { OnErr result (ShowsFront (lines (flat_map (λ piece. piece) pieces.now)) (M.told machine.old) (M.told machine.new)) }
-    ensures left { M.left machine.new ≡ M.left machine.old }
-    ensures fixed { M.fixed machine.new ≡ M.fixed machine.old }
+    ensures frame { Keeps M.left M.fixed machine.old machine.new }
     ensures cause { IsCaused result (M.faults machine.old) (M.faults machine.new) }
 {
     let mut held = Bytes::new(alloc);

@@ -1,13 +1,16 @@
-ghost use Rattle.std.specs.Prelude.{◌≡◌, ◌⊎◌, ℕ, ◌<◌, ◌≤◌, List, [], length, map, Result, Err, IfOk, IfErr, OnOk};
+//! A run: what the words ask for, carried out and warned of.
+ghost use Rattle.std.specs.Prelude.{◌≡◌, ◌⊎◌, ℕ, ◌+◌, ◌<◌, ◌≤◌, List, [], length, map, Result, Err, IfOk, IfErr, OnOk};
 ghost use Rattle.std.specs.String.{string_bytes};
 ghost use Rattle.ql_edge.specs.Cause.{Rose};
+ghost use Rattle.ql_edge.specs.Frame.{Keeps};
 ghost use Rattle.ql_edge.specs.Told.{shown_of, warned_of};
 ghost use Rattle.ql_syntax.specs.declared.statement.Statement.{Statement};
 ghost use Rattle.ql_shell.specs.Cause.{IsCausedReading, IsCausedStatus, stopped_by};
-ghost use Rattle.ql_shell.specs.Comes.{Comes};
+ghost use Rattle.ql_shell.specs.Comes.{Comes, longest_script};
 ghost use Rattle.ql_rel.specs.Meaning.{meaning};
 ghost use Rattle.ql_shell.specs.Meaning.{Answer, answer_of, answered, Means};
-ghost use Rattle.ql_shell.specs.Run.{IsFinal, Gives, Warns, IsFrontShown, IsShown, IsRefusedWhole, EndsEarly, EndsScript, EndsStatements, IsScript, TellsScript, Takes, TakesAll};
+ghost use Rattle.ql_shell.specs.Pieces.{ShowsText};
+ghost use Rattle.ql_shell.specs.Run.{IsFinal, Gives, Warns, IsFrontShown, IsAddedTo, IsShown, IsRefusedWhole, EndsEarly, EndsScript, EndsStatements, IsScript, TellsScript, Takes, TakesAll, TakesAtMost};
 ghost use Rattle.ql_shell.specs.Words.{command_of};
 ghost use Rattle.ql_shell.specs.declared.status.ScriptFault.{ScriptFault};
 ghost use Rattle.ql_shell.specs.declared.status.ScriptFault.TheVariants as fault;
@@ -30,7 +33,7 @@ use std::alloc::Global;
 pub const SCRIPT_LIMIT: usize = 16_777_216;
 
 /// The status of a run that a statement of this number stopped.
-fn stopped(statement: u64, fault: StepFault) -> Status
+fn stop_status(statement: u64, fault: StepFault) -> Status
     ensures { result ≡ stopped_by statement fault }
 {
     match fault {
@@ -44,8 +47,7 @@ fn carry_out<M: Shows>(alloc: Global, machine: &mut M, statements: Statements) -
     ensures gives { Gives (answered (meaning 1 statements [])) result (M.told machine.old) (M.told machine.new) }
     ensures warned { warned_of (M.told machine.new) ≡ warned_of (M.told machine.old) }
     ensures ends { EndsStatements result }
-    ensures left { M.left machine.new ≡ M.left machine.old }
-    ensures fixed { M.fixed machine.new ≡ M.fixed machine.old }
+    ensures frame { Keeps M.left M.fixed machine.old machine.new }
     ensures cause { IsCausedStatus result (M.faults machine.old) (M.faults machine.new) }
 {
     let mut tables = Tables::new(alloc);
@@ -54,34 +56,38 @@ fn carry_out<M: Shows>(alloc: Global, machine: &mut M, statements: Statements) -
         number += 1;
         match step(alloc, &mut tables, machine, &statement) {
             Ok(()) => {}
-            Err(fault) => return stopped(number, fault),
+            Err(fault) => return stop_status(number, fault),
         }
     }
     Status::Done
 }
 
-/// Carries out a script that is not too long.
-fn answer_script<M: Shows>(alloc: Global, machine: &mut M, source: &[u8]) -> Status
-    requires { length source.now ≤ SCRIPT_LIMIT }
-    ensures gives { (outcome : Result (List Statement) ScriptFault) → Comes source.now outcome → Gives (answer_of outcome) result (M.told machine.old) (M.told machine.new) }
-    ensures means { IsFinal result → (outcome : Result (List Statement) ScriptFault) × Comes source.now outcome × (result ≡ (answer_of outcome).status) }
+/// Carries out a script that is not too long. Its bytes are let go before its first statement is carried out.
+fn answer_script<M: Shows>(alloc: Global, machine: &mut M, source: Bytes) -> Status
+    requires { length source ≤ longest_script }
+    ensures gives { (outcome : Result (List Statement) ScriptFault) → Comes source outcome
+        → Gives (answer_of outcome) result (M.told machine.old) (M.told machine.new) }
+    ensures means { IsFinal result → (outcome : Result (List Statement) ScriptFault)
+        × Comes source outcome × (result ≡ (answer_of outcome).status) }
     ensures silent { IsRefusedWhole result → M.told machine.new ≡ M.told machine.old }
+    ensures shows { ShowsText (M.told machine.old) (M.told machine.new) }
     ensures warned { warned_of (M.told machine.new) ≡ warned_of (M.told machine.old) }
     ensures ends { EndsScript result }
-    ensures left { M.left machine.new ≡ M.left machine.old }
-    ensures fixed { M.fixed machine.new ≡ M.fixed machine.old }
+    ensures frame { Keeps M.left M.fixed machine.old machine.new }
     ensures cause { IsCausedStatus result (M.faults machine.old) (M.faults machine.new) }
 {
-    match read_statements(alloc, source) {
+    let read = read_statements(alloc, source.as_slice());
+    drop(source);
+    match read {
         Ok(statements) => carry_out(alloc, machine, statements),
         Err(status) => status,
     }
 }
 
 /// The text of the words, where it is not too long.
-fn checked(text: Bytes) -> Result<Bytes, Status>
-    ensures ok { IfOk result (λ source. (source ≡ text) × (length source ≤ SCRIPT_LIMIT)) }
-    ensures too_long { IfErr result (λ s. (s ≡ ended.Script fault.TooLong) × (SCRIPT_LIMIT < length text)) }
+fn short_text(text: Bytes) -> Result<Bytes, Status>
+    ensures ok { IfOk result (λ source. (source ≡ text) × (length source ≤ longest_script)) }
+    ensures too_long { IfErr result (λ s. (s ≡ ended.Script fault.TooLong) × (longest_script < length text)) }
 {
     if text.len() > SCRIPT_LIMIT {
         return Err(Status::Script(ScriptFault::TooLong));
@@ -97,17 +103,17 @@ fn take_script<M: Machine>(
 ) -> Result<Bytes, Status>
     ensures usage { (word : ℕ) → command ≡ asked.Usage word → result ≡ Err (ended.Usage word) }
     ensures script { IfOk result (IsScript command (M.left machine.old)) }
-    ensures within { IfOk result (λ source. length source ≤ SCRIPT_LIMIT) }
+    ensures within { IfOk result (λ source. length source ≤ longest_script) }
     ensures all { OnOk result (TakesAll command (M.left machine.old) (M.left machine.new)) }
     ensures ends { IfErr result (EndsEarly command (M.left machine.old)) }
     ensures takes { IfErr result (λ s. Takes command s (M.left machine.old) (M.left machine.new)) }
-    ensures told { M.told machine.new ≡ M.told machine.old }
-    ensures fixed { M.fixed machine.new ≡ M.fixed machine.old }
+    ensures most { TakesAtMost (longest_script + 1) (M.left machine.old) (M.left machine.new) }
+    ensures frame { Keeps M.told M.fixed machine.old machine.new }
     ensures cause { IsCausedReading result (M.faults machine.old) (M.faults machine.new) }
 {
     match command {
         Command::Usage(word) => Err(Status::Usage { word }),
-        Command::Text(text) => checked(text),
+        Command::Text(text) => short_text(text),
         Command::Input => read_script(alloc, machine),
     }
 }
@@ -119,13 +125,15 @@ fn answer_command<M: Machine>(alloc: Global, command: Command, machine: &mut M) 
     ensures usage { (word : ℕ) → command ≡ asked.Usage word → result ≡ ended.Usage word }
     ensures usage_only { (word : ℕ) → result ≡ ended.Usage word → command ≡ asked.Usage word }
     ensures silent { IsRefusedWhole result → M.told machine.new ≡ M.told machine.old }
+    ensures shows { ShowsText (M.told machine.old) (M.told machine.new) }
     ensures warned { warned_of (M.told machine.new) ≡ warned_of (M.told machine.old) }
     ensures takes { Takes command result (M.left machine.old) (M.left machine.new) }
+    ensures most { TakesAtMost (longest_script + 1) (M.left machine.old) (M.left machine.new) }
     ensures fixed { M.fixed machine.new ≡ M.fixed machine.old }
     ensures cause { IsCausedStatus result (M.faults machine.old) (M.faults machine.new) }
 {
     match take_script(alloc, command, machine) {
-        Ok(source) => answer_script(alloc, machine, source.as_slice()),
+        Ok(source) => answer_script(alloc, machine, source),
         Err(status) => status,
     }
 }
@@ -138,8 +146,10 @@ fn answer<M: Machine>(alloc: Global, words: &[String], machine: &mut M) -> Statu
     ensures usage { (word : ℕ) → command_of (map string_bytes words.now) ≡ asked.Usage word → (result ≡ ended.Usage word) ⊎ (result ≡ ended.NoMemory) }
     ensures usage_only { (word : ℕ) → result ≡ ended.Usage word → command_of (map string_bytes words.now) ≡ asked.Usage word }
     ensures silent { IsRefusedWhole result → M.told machine.new ≡ M.told machine.old }
+    ensures shows { ShowsText (M.told machine.old) (M.told machine.new) }
     ensures warned { warned_of (M.told machine.new) ≡ warned_of (M.told machine.old) }
     ensures takes { Takes (command_of (map string_bytes words.now)) result (M.left machine.old) (M.left machine.new) }
+    ensures most { TakesAtMost (longest_script + 1) (M.left machine.old) (M.left machine.new) }
     ensures fixed { M.fixed machine.new ≡ M.fixed machine.old }
     ensures cause { IsCausedStatus result (M.faults machine.old) (M.faults machine.new) }
 {
@@ -172,6 +182,8 @@ pub fn run<M: Machine>(alloc: Global, words: &Vec<String>, machine: M) -> (M, St
     ensures warned { Warns result.1 (warned_of (M.told machine)) (warned_of (M.told result.0)) (M.faults machine) (M.faults result.0) }
     ensures fault { result.1 ≡ ended.Fault → Rose (M.faults machine) (M.faults result.0) }
     ensures reads { Takes (command_of (map string_bytes words.now.items)) result.1 (M.left machine) (M.left result.0) }
+    ensures most { TakesAtMost (longest_script + 1) (M.left machine) (M.left result.0) }
+    ensures grows { IsAddedTo (shown_of (M.told machine)) (shown_of (M.told result.0)) }
     ensures fixed { M.fixed result.0 ≡ M.fixed machine }
 {
     let mut machine = machine;

@@ -1,3 +1,4 @@
+//! How a run ends, and the exit status for it.
 ghost use Rattle.std.specs.Prelude.{◌≡◌};
 ghost use Rattle.ql_edge.specs.declared.fault.DeviceFault.TheVariants as device;
 ghost use Rattle.ql_shell.specs.Code.{code_of};

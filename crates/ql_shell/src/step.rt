@@ -1,4 +1,6 @@
+//! One statement, carried out.
 ghost use Rattle.std.specs.Prelude.{◌≡◌, ℕ, List, [], ◌⊎◌, Ok, Err, IfOk, OnOk};
+ghost use Rattle.ql_edge.specs.Frame.{Keeps};
 ghost use Rattle.ql_edge.specs.Told.{with_shown, ShowsFront};
 ghost use Rattle.ql_shell.specs.Cause.{IsCausedStep};
 ghost use Rattle.ql_rel.specs.Effect as spec;
@@ -78,8 +80,7 @@ fn show<M: Shows>(
     ensures done { OnOk result ((text : List ℕ) × (spec.shown name.now tables.now ≡ Ok (text, tables.now)) × (M.told machine.new ≡ with_shown text (M.told machine.old))) }
     ensures refused { (r : Refusal) → result ≡ Err (step.Refused r) → (spec.shown name.now tables.now ≡ Err r) × (M.told machine.new ≡ M.told machine.old) }
     ensures fault { (f : DeviceFault) → result ≡ Err (step.Device f) → ShowsFront (text_of (spec.shown name.now tables.now)) (M.told machine.old) (M.told machine.new) }
-    ensures left { M.left machine.new ≡ M.left machine.old }
-    ensures fixed { M.fixed machine.new ≡ M.fixed machine.old }
+    ensures frame { Keeps M.left M.fixed machine.old machine.new }
     ensures cause { IsCausedStep result (M.faults machine.old) (M.faults machine.new) }
 {
     let Some(rows) = tables.rows(name) else {
@@ -98,8 +99,7 @@ fn select<M: Shows>(
     ensures done { OnOk result ((text : List ℕ) × (spec.select (form.shown_table query.now) tables.now ≡ Ok (text, tables.now)) × (M.told machine.new ≡ with_shown text (M.told machine.old))) }
     ensures refused { (r : Refusal) → result ≡ Err (step.Refused r) → (spec.select (form.shown_table query.now) tables.now ≡ Err r) × (M.told machine.new ≡ M.told machine.old) }
     ensures fault { (f : DeviceFault) → result ≡ Err (step.Device f) → ShowsFront (text_of (spec.select (form.shown_table query.now) tables.now)) (M.told machine.old) (M.told machine.new) }
-    ensures left { M.left machine.new ≡ M.left machine.old }
-    ensures fixed { M.fixed machine.new ≡ M.fixed machine.old }
+    ensures frame { Keeps M.left M.fixed machine.old machine.new }
     ensures cause { IsCausedStep result (M.faults machine.old) (M.faults machine.new) }
 {
     match shown_table(query) {
@@ -118,8 +118,7 @@ fn step_on_tables<M: Shows>(
     ensures done { OnOk result ((text : List ℕ) × (spec.on_tables statement.now tables.old ≡ Ok (text, tables.new)) × (M.told machine.new ≡ with_shown text (M.told machine.old))) }
     ensures refused { (r : Refusal) → result ≡ Err (step.Refused r) → (spec.on_tables statement.now tables.old ≡ Err r) × (M.told machine.new ≡ M.told machine.old) }
     ensures fault { (f : DeviceFault) → result ≡ Err (step.Device f) → ShowsFront (text_of (spec.on_tables statement.now tables.old)) (M.told machine.old) (M.told machine.new) }
-    ensures left { M.left machine.new ≡ M.left machine.old }
-    ensures fixed { M.fixed machine.new ≡ M.fixed machine.old }
+    ensures frame { Keeps M.left M.fixed machine.old machine.new }
     ensures cause { IsCausedStep result (M.faults machine.old) (M.faults machine.new) }
 {
     match statement {
@@ -132,8 +131,8 @@ fn step_on_tables<M: Shows>(
             table,
             columns,
             source,
-        } => insert(alloc, tables, table, columns, source),
-        Statement::Query(query) => select(alloc, tables, machine, query),
+        } => insert(alloc, tables, table, columns, source.get()),
+        Statement::Query(query) => select(alloc, tables, machine, query.get()),
         _ => Err(refused(alloc, LATER)),
     }
 }
@@ -147,8 +146,7 @@ fn show_expressions<M: Shows>(
     ensures done { OnOk result ((text : List ℕ) × (expressions_text statement.now ≡ Ok text) × (M.told machine.new ≡ with_shown text (M.told machine.old))) }
     ensures refused { (r : Refusal) → result ≡ Err (step.Refused r) → (expressions_text statement.now ≡ Err r) × (M.told machine.new ≡ M.told machine.old) }
     ensures fault { (f : DeviceFault) → result ≡ Err (step.Device f) → ShowsFront (text_if (expressions_text statement.now)) (M.told machine.old) (M.told machine.new) }
-    ensures left { M.left machine.new ≡ M.left machine.old }
-    ensures fixed { M.fixed machine.new ≡ M.fixed machine.old }
+    ensures frame { Keeps M.left M.fixed machine.old machine.new }
     ensures cause { IsCausedStep result (M.faults machine.old) (M.faults machine.new) }
 {
     let text = expressions_text(alloc, statement)?;
@@ -169,8 +167,7 @@ pub fn step<M: Shows>(
     ensures done { OnOk result ((text : List ℕ) × (effect statement.now tables.old ≡ Ok (text, tables.new)) × (M.told machine.new ≡ with_shown text (M.told machine.old))) }
     ensures refused { (r : Refusal) → result ≡ Err (step.Refused r) → (effect statement.now tables.old ≡ Err r) × (M.told machine.new ≡ M.told machine.old) }
     ensures fault { (f : DeviceFault) → result ≡ Err (step.Device f) → ShowsFront (text_of (effect statement.now tables.old)) (M.told machine.old) (M.told machine.new) }
-    ensures left { M.left machine.new ≡ M.left machine.old }
-    ensures fixed { M.fixed machine.new ≡ M.fixed machine.old }
+    ensures frame { Keeps M.left M.fixed machine.old machine.new }
     ensures cause { IsCausedStep result (M.faults machine.old) (M.faults machine.new) }
 {
     if is_of_expressions(statement) {

@@ -1,3 +1,4 @@
+//! The tables of a run.
 ghost use Rattle.std.specs.Prelude.{◌≡◌, [], ◌∷◌, ◌++◌, false, None, Some, IfOk, OnOk, MatchBool, MatchOption, length, is_some, find, position, flat_map};
 ghost use Rattle.std.specs.Str.{bytes_eq};
 ghost use Rattle.ql_rel.specs.Tables as value;

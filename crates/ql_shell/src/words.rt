@@ -1,3 +1,4 @@
+//! What the words of the command line ask for.
 ghost use Rattle.std.specs.Prelude.{◌≡◌, ◌∷◌, ◌++◌, IfOk, OnOk, map, flat_map};
 ghost use Rattle.std.specs.String.{string_bytes};
 ghost use Rattle.ql_shell.specs.Words as spec;

@@ -1,3 +1,4 @@
+//! What a script comes to, as a line.
 use crate::shape::add_shape;
 use ql_edge::{Bytes, NoMemory};
 use ql_lex::{LexFault, tokens};
@@ -54,7 +55,7 @@ pub fn add_answer(alloc: Global, source: &[u8], out: &mut Bytes) -> Result<(), N
         Err(LexFault::Unclosed(at)) => return add_fault(b"unclosed", at, out),
         Err(LexFault::NoMemory) => return Err(NoMemory),
     };
-    match script(alloc, source, &tokens) {
+    match script(alloc, source, tokens) {
         Ok(statements) => add_script(alloc, &statements, out),
         Err(ParseFault::Unexpected(at)) => add_fault(b"unexpected", at, out),
         Err(ParseFault::TooNested(at)) => add_fault(b"too nested", at, out),

@@ -1,3 +1,4 @@
+//! What an expression prints, with brackets that show how it is read.
 use ql_edge::{Boxed, Bytes, NoMemory};
 use ql_print::print_expr;
 use ql_syntax::{Expr, Exprs, Links};
@@ -94,10 +95,10 @@ pub fn add_shape(alloc: Global, expr: &Expr, out: &mut Bytes) -> Result<(), NoMe
     match expr {
         Expr::Chain { first, rest } => {
             add_shape(alloc, first.get(), out)?;
-            add_links(alloc, rest, out)?;
+            add_links(alloc, rest.get(), out)?;
         }
         Expr::Unary { ops, part } => {
-            add_ops(ops, out)?;
+            add_ops(ops.get(), out)?;
             add_shape(alloc, part.get(), out)?;
         }
         Expr::Paren(part) => add_enclosed(alloc, part, out)?,
@@ -109,14 +110,14 @@ pub fn add_shape(alloc: Global, expr: &Expr, out: &mut Bytes) -> Result<(), NoMe
             add_head(alloc, expr, out)?;
             add_enclosed(alloc, part, out)?;
         }
-        Expr::IsIn { part, not, list } => {
+        Expr::IsIn { not, part, list } => {
             add_shape(alloc, part.get(), out)?;
             out.extend(if *not { b" NOT IN " } else { b" IN " })?;
-            add_list(alloc, list, out)?;
+            add_list(alloc, list.get(), out)?;
         }
         Expr::IsBetween {
-            part,
             not,
+            part,
             low,
             high,
         } => {

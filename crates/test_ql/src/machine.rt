@@ -1,3 +1,4 @@
+//! A machine in memory, and the lists.
 ghost use Rattle.std.specs.Prelude.{◌<◌};
 
 use crate::made::{bytes, failing, sound};

@@ -1,3 +1,4 @@
+//! What the tests make.
 ghost use Rattle.std.specs.Prelude.{◌<◌};
 
 use ql_edge::{Bytes, MemMachine, MemPlan, NoMemory, Numbers};

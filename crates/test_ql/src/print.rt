@@ -1,3 +1,4 @@
+//! Printed statements, expressions and numbers.
 use crate::made::bytes;
 use ql_edge::{Boxed, Bytes, Name, NoMemory};
 use ql_print::{print_expr, print_statement};
@@ -25,7 +26,7 @@ fn text_column(alloc: Global) -> Result<ColumnDef, NoMemory> {
         kind: Kind::Text,
         not_null: true,
         rule: None,
-        default: Some(Expr::Text(bytes(alloc, b"x")?)),
+        default: Some(Boxed::new(alloc, Expr::Text(bytes(alloc, b"x")?))?),
     })
 }
 
@@ -57,6 +58,7 @@ fn negation(alloc: Global) -> Result<Expr, NoMemory> {
     let mut ops = UnOps::new(alloc);
     ops.push(UnOp::Minus)?;
     ops.push(UnOp::Minus)?;
+    let ops = Boxed::new(alloc, ops)?;
     let part = Boxed::new(alloc, Expr::Paren(Boxed::new(alloc, Expr::Number(5))?))?;
     Ok(Expr::Unary { ops, part })
 }
@@ -69,6 +71,7 @@ fn comparison(alloc: Global) -> Result<Expr, NoMemory> {
         part: Expr::Null,
     })?;
     let first = Boxed::new(alloc, negation(alloc)?)?;
+    let rest = Boxed::new(alloc, rest)?;
     Ok(Expr::Chain { first, rest })
 }
 

@@ -1,3 +1,4 @@
+//! Scripts on standard input, carried out.
 ghost use Rattle.std.specs.Prelude.{◌<◌};
 
 use crate::made::{bytes, failing, sound};

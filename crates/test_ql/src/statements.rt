@@ -1,3 +1,4 @@
+//! Statements that are read, printed and read again.
 use ql_edge::Bytes;
 use ql_lex::tokens;
 use ql_parse::{BRACKET_LIMIT, ParseFault, script};
@@ -90,7 +91,7 @@ const FORMS: [Form; 18] = [
 /// The statements of a source as they print, each with a semicolon.
 fn printed(alloc: Global, source: &[u8]) -> Result<Bytes, Fail> {
     let tokens = tokens(alloc, source)?;
-    let statements = script(alloc, source, &tokens)?;
+    let statements = script(alloc, source, tokens)?;
     let mut out = Bytes::new(alloc);
     for statement in statements.as_slice() {
         print_statement(statement, &mut out)?;
@@ -116,7 +117,7 @@ fn prints_what_it_reads_back(rt: HostRuntime) -> Result<(), Fail> {
 /// The number of the first token that a source does not read at, and nothing where it reads.
 fn unread(alloc: Global, source: &[u8]) -> Result<Option<ParseFault>, Fail> {
     let tokens = tokens(alloc, source)?;
-    Ok(script(alloc, source, &tokens).err())
+    Ok(script(alloc, source, tokens).err())
 }
 
 #[test]

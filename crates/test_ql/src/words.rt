@@ -1,3 +1,4 @@
+//! Words of the command line.
 use crate::made::sound;
 use ql_edge::{MemMachine, NoMemory};
 use ql_shell::{SCRIPT_LIMIT, code, run};

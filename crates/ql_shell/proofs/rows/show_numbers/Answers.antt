@@ -8,8 +8,7 @@ loop-number-preserved g c =
     let here : c.loop-number.number-index < length c.args.numbers.now = omega arith in
     record {
       holds = turn_holds row_text c.args.held.now c.args.numbers.now c.loop-number.number-index 0 _ _ _ _ _ _ here refl c.loop-number.invariant.holds c.in_ok-show_row.ensures.ok;
-      left = c.in_ok-show_row.ensures.left ∙ c.loop-number.invariant.left;
-      fixed = c.in_ok-show_row.ensures.fixed ∙ c.loop-number.invariant.fixed;
+      frame = (c.in_ok-show_row.ensures.frame.0 ∙ c.loop-number.invariant.frame.0, c.in_ok-show_row.ensures.frame.1 ∙ c.loop-number.invariant.frame.1);
       faults = c.in_ok-show_row.ensures.cause ∙ c.loop-number.invariant.faults;
     }
 

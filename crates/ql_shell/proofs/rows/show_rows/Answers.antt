@@ -12,8 +12,7 @@ loop-piece-preserved g c =
     let text = ap lines (c.as_slice.ensures ∙ c.piece-item.is) in
     record {
       holds = turn_holds lines [] c.args.pieces.now c.loop-piece.piece-index _ _ _ _ _ _ _ here text c.loop-piece.invariant.holds c.in_ok-show_numbers.ensures.ok;
-      left = c.in_ok-show_numbers.ensures.left ∙ c.loop-piece.invariant.left;
-      fixed = c.in_ok-show_numbers.ensures.fixed ∙ c.loop-piece.invariant.fixed;
+      frame = (c.in_ok-show_numbers.ensures.frame.0 ∙ c.loop-piece.invariant.frame.0, c.in_ok-show_numbers.ensures.frame.1 ∙ c.loop-piece.invariant.frame.1);
       faults = c.in_ok-show_numbers.ensures.cause ∙ c.loop-piece.invariant.faults;
     }
 

@@ -2,7 +2,7 @@ use Rattle.std.proofs.Common.{take, inl, inr, ap, ◌∙◌}
 use Rattle.ql_edge.specs.Told.{shown_of}
 use Rattle.ql_shell.specs.Run.{IsFinal}
 use Rattle.ql_shell.specs.declared.status.Status.TheVariants.{NoMemory}
-use Rattle.ql_shell.proofs.Giving.{gives_front, gives_whole, final_or_not, shown_with_shown}
+use Rattle.ql_shell.proofs.Giving.{gives_front, gives_whole, final_or_not, shown_with_shown, shows_added}
 use Rattle.ql_shell.proofs.Taking.{takes_memory}
 use Rattle.ql_shell.proofs.script_run.run.Goals as goal
 
@@ -37,6 +37,12 @@ pub returns-clause-reads : goal.returns-clause-reads
 returns-clause-reads g c =
     let takes = rw c.as_slice.ensures.value at c.answer-status.ensures.takes in
     elim c.warn-status.ensures.same [
-      | inl same ↦ rw (same, c.warn-status.ensures.left) takes
-      | inr memory ↦ rw (memory, c.warn-status.ensures.left) (takes_memory _ c.answer-status.result _ _ takes)
+      | inl same ↦ rw (same, c.warn-status.ensures.frame.0) takes
+      | inr memory ↦ rw (memory, c.warn-status.ensures.frame.0) (takes_memory _ c.answer-status.result _ _ takes)
     ]
+
+pub returns-clause-grows : goal.returns-clause-grows
+returns-clause-grows g c = let added = shows_added _ _ c.answer-status.ensures.shows in (added.0, c.warn-status.ensures.shown ∙ added.1)
+
+pub returns-clause-most : goal.returns-clause-most
+returns-clause-most g c = rw c.warn-status.ensures.frame.0 c.answer-status.ensures.most
