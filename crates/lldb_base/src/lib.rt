@@ -3,6 +3,7 @@
 
 mod base;
 mod batch;
+mod filer;
 mod inner;
 mod memory;
 mod texts;
@@ -10,6 +11,7 @@ mod trouble;
 
 pub use base::BaseFiler;
 pub use batch::{Batch, Piece};
+pub use filer::Filer;
 pub use inner::InnerFiler;
-pub use memory::MemFiler;
+pub use memory::{MemFiler, put_piece};
 pub use trouble::{Refused, Trouble};

@@ -1,5 +1,5 @@
 //! A base filer in memory.
-ghost use Rattle.std.specs.Prelude.{◌≡◌, ◌+◌, ◌^◌, ◌≤◌, [], ◌∷◌, length, Some, true, IfOk, OnOk, refl};
+ghost use Rattle.std.specs.Prelude.{◌≡◌, ◌+◌, ◌^◌, ◌≤◌, [], ◌∷◌, length, Some, true, IfOk, OnOk, OnErr, refl};
 ghost use Rattle.std.proofs.Common.{◌∙◌, ap};
 ghost use Rattle.lldb_base.specs.Batch.{put, applied, CanTake};
 
@@ -43,14 +43,16 @@ impl MemFiler {
     }
 }
 
-/// Writes a piece over the bytes from a place on, and makes them longer where it ends behind them.
-fn put_piece(bytes: &mut Vec<u8>, at: usize, piece: &[u8]) -> Result<(), NoMemory>
+/// Writes a piece over the bytes from a place on, and makes them longer where it ends behind them. After a refusal they
+/// are as before.
+pub fn put_piece(bytes: &mut Vec<u8>, at: usize, piece: &[u8]) -> Result<(), NoMemory>
     requires { at ≤ length bytes.old.items }
-    ensures { OnOk result (bytes.new.items ≡ put at piece.now bytes.old.items) }
+    ensures ok { OnOk result (bytes.new.items ≡ put at piece.now bytes.old.items) }
+    ensures err { OnErr result (bytes.new.items ≡ bytes.old.items) }
 {
     let over = piece.len().min(bytes.len() - at);
-    bytes[at..at + over].copy_from_slice(&piece[..over]);
     bytes.extend_from_slice(&piece[over..])?;
+    bytes[at..at + over].copy_from_slice(&piece[..over]);
     Ok(())
 }
 

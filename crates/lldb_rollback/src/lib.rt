@@ -1,13 +1,8 @@
-// A library with one function.
+//! Nested levels over any base filer.
 #![tactic(auto)]
 
-ghost use Rattle.std.specs.Prelude.{◌≡◌};
-ghost use Rattle.lldb_rollback.specs.Echo.{echo_of};
+mod changes;
+mod levels;
+mod stack;
 
-// The `ensures` clause is the contract: what `echo` returns is `echo_of` of its argument, a definition
-// in `specs/Echo.antt`, which a caller's clause can cite too.
-pub fn echo(x: usize) -> usize
-    ensures { result ≡ echo_of x }
-{
-    x
-}
+pub use levels::RollbackFiler;
