@@ -1,0 +1,8 @@
+//! Nested levels over any base filer.
+#![tactic(auto)]
+
+mod changes;
+mod levels;
+mod stack;
+
+pub use levels::RollbackFiler;
