@@ -1,13 +1,18 @@
 #!/usr/bin/env python3
-"""Runs the built program on the cases of cases.toml: run.py PROGRAM. Its last line is 'N passed, N failed'."""
+"""Runs the built program on the cases of cases.toml: run.py PROGRAM. Its last line is 'N passed, N failed'.
+
+Each run has a stack of 4 MiB, half of what a shell gives: 200 open brackets have to fit into it.
+"""
 import os
 import pathlib
+import resource
 import subprocess
 import sys
 import tempfile
 import tomllib
 
 SECONDS = 60
+STACK = 4 << 20
 
 
 def text_of(parts):
@@ -54,7 +59,8 @@ def run_once(program, run, here):
         source = open_input(run.get("from", "file"), text_of(run.get("stdin", "")), beside)
         target = open_output(run.get("to", "file"), beside)
 
-        def streams():
+        def prepare():
+            resource.setrlimit(resource.RLIMIT_STACK, (STACK, STACK))
             for number, stream in ((0, source), (1, target)):
                 if stream is None:
                     os.close(number)
@@ -63,7 +69,7 @@ def run_once(program, run, here):
 
         words = [bytes.fromhex(word) for word in run["words_hex"]] if "words_hex" in run else run.get("words", [])
         try:
-            done = subprocess.run([program, *words], cwd=here, stderr=subprocess.PIPE, preexec_fn=streams, timeout=SECONDS)
+            done = subprocess.run([program, *words], cwd=here, stderr=subprocess.PIPE, preexec_fn=prepare, timeout=SECONDS)
         except subprocess.TimeoutExpired:
             return f"still runs after {SECONDS} s"
         finally:
