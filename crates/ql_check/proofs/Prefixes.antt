@@ -1,15 +1,16 @@
 -- Operators before a part, taken from the last one on.
 use Rattle.std.proofs.Common.{◌≡◌, ◌<◌, ◌≤◌, List, [], ◌∷◌, ◌++◌, length, refl, ap, Ok, arith}
 use Rattle.ql_value.specs.declared.operator.UnOp.{UnOp}
-use Rattle.ql_syntax.specs.Typing.{Typing, prefix_type, prefixed_type}
-use Rattle.ql_rel.specs.Checked.{Checked}
-use Rattle.ql_rel.specs.Operands.{ends_with_minus, but_last, under, signed}
+use Rattle.ql_syntax.specs.declared.typing.Typing.{Typing}
+use Rattle.ql_syntax.specs.Typing.{prefix_type, prefixed_type}
+use Rattle.ql_rel.specs.declared.checked.Checked.{Checked}
+use Rattle.ql_rel.specs.Operands.{ends_with_minus, but_last, under, ops_by_table}
 
 pub under_none : (ops : List UnOp) (c : Checked) → length ops ≤ 0 → under ops c ≡ Ok c
 under_none [] c h = refl
 under_none (o ∷ ops) c h = absurd (omega (arith, h))
 
-pub under_some : (ops : List UnOp) (c : Checked) → 0 < length ops → under ops c ≡ signed ops c
+pub under_some : (ops : List UnOp) (c : Checked) → 0 < length ops → under ops c ≡ ops_by_table ops c
 under_some [] c h = absurd (omega (arith, h))
 under_some (o ∷ ops) c h = refl
 

@@ -7,8 +7,8 @@ use Rattle.ql_rel.specs.Plans.{plan}
 use Rattle.ql_rel.specs.PlanTypes.{PlanTyped, row_types}
 use Rattle.ql_rel.proofs.SelectFits.{plan_typed}
 use Rattle.ql_check.specs.declared.fault.CheckFault.{CheckFault}
-use Rattle.ql_check.specs.Gives.{Gives, same}
+use Rattle.ql_check.specs.Gives.{Gives}
 
-pub plans_typed : (schema : Schema) (statement : Statement) (r : Result Plan CheckFault) → Gives same (plan schema statement) r → IfOk r (PlanTyped (row_types schema statement))
+pub plans_typed : (schema : Schema) (statement : Statement) (r : Result Plan CheckFault) → Gives (plan schema statement) r → IfOk r (PlanTyped (row_types schema statement))
 plans_typed schema statement (Ok p) h = plan_typed schema statement p h
 plans_typed schema statement (Err f) h = tt

@@ -6,15 +6,15 @@ use Rattle.ql_check.specs.declared.fault.CheckFault.{CheckFault}
 use Rattle.ql_check.specs.declared.fault.CheckFault.TheVariants as fault
 use Rattle.ql_check.specs.Gives.{Gives}
 
-through : {C D X Y : Type 0} (p : X → C) (q : Y → D) (a : Answer C) (h : C → Answer D) (f : CheckFault) → Gives p a (Err f) → Gives q (then_with a h) (Err f)
-through p q a h (fault.Refused r) e = ap (λ z. then_with z h) e
-through p q a h fault.NoMemory e = tt
+through : {C D : Type 0} (a : Answer C) (h : C → Answer D) (f : CheckFault) → Gives a (Err f) → Gives (then_with a h) (Err f)
+through a h (fault.Refused r) e = ap (λ z. then_with z h) e
+through a h fault.NoMemory e = tt
 
-same_fault : {D Y : Type 0} (q : Y → D) (a : Answer D) (f : CheckFault) (r : Result Y CheckFault) → Gives q a (Err f) → IsErrAnd r (λ g. g ≡ f) → Gives q a r
-same_fault q a f (Ok y) e i = absurd i
-same_fault q a f (Err g) e i = subst (λ z. Gives q a (Err z)) (sym i) e
+same_fault : {D : Type 0} (a : Answer D) (f : CheckFault) (r : Result D CheckFault) → Gives a (Err f) → IsErrAnd r (λ g. g ≡ f) → Gives a r
+same_fault a f (Ok y) e i = absurd i
+same_fault a f (Err g) e i = subst (λ z. Gives a (Err z)) (sym i) e
 
-pub third : {A B C D X Y : Type 0} (p : X → C) (q : Y → D) (a : Answer A) (b : A → Answer B) (c : A → B → Answer C) (d : A → B → C → Answer D) (x : A) (y : B) (f : CheckFault) (r : Result Y CheckFault) → a ≡ Ok x → b x ≡ Ok y → Gives p (c x y) (Err f) → IsErrAnd r (λ g. g ≡ f) → Gives q (then_with a (λ u. then_with (b u) (λ v. then_with (c u v) (d u v)))) r
-third p q a b c d x y f r e g h i =
-    subst (λ z. Gives q (then_with z (λ u. then_with (b u) (λ v. then_with (c u v) (d u v)))) r) (sym e)
-    (subst (λ z. Gives q (then_with z (λ v. then_with (c x v) (d x v))) r) (sym g) (same_fault q (then_with (c x y) (d x y)) f r (through p q (c x y) (d x y) f h) i))
+pub third : {A B C D : Type 0} (a : Answer A) (b : A → Answer B) (c : A → B → Answer C) (d : A → B → C → Answer D) (x : A) (y : B) (f : CheckFault) (r : Result D CheckFault) → a ≡ Ok x → b x ≡ Ok y → Gives (c x y) (Err f) → IsErrAnd r (λ g. g ≡ f) → Gives (then_with a (λ u. then_with (b u) (λ v. then_with (c u v) (d u v)))) r
+third a b c d x y f r e g h i =
+    subst (λ z. Gives (then_with z (λ u. then_with (b u) (λ v. then_with (c u v) (d u v)))) r) (sym e)
+    (subst (λ z. Gives (then_with z (λ v. then_with (c x v) (d x v))) r) (sym g) (same_fault (then_with (c x y) (d x y)) f r (through (c x y) (d x y) f h) i))

@@ -1,6 +1,6 @@
 -- Answers that are gathered one by one.
 use Rattle.std.proofs.Common.{◌≡◌, ℕ, ◌+◌, ◌<◌, List, [], ◌∷◌, ◌++◌, map, drop, get_or, length, Ok, Err, refl, sym, ap, subst, ◌∙◌, append_assoc, append-nil}
-use Rattle.std.proofs.lemmas.List.{drop_more, map-append}
+use Rattle.std.proofs.lemmas.List.{drop_more}
 use Rattle.ql_value.specs.declared.refusal.Refusal.{Refusal}
 use Rattle.ql_rel.specs.Answers.{Answer, then_with, all_of}
 
@@ -28,18 +28,9 @@ turn_same f all i x d list new y total h e a n w =
     let before : behind list (all_of (map f (x ∷ drop (i + 1) all))) ≡ total = subst (λ l. behind list (all_of (map f l)) ≡ total) here w in
     subst (λ l. behind l (all_of (map f (drop (i + 1) all))) ≡ total) (sym n) (sym (turn list y (f x) (map f (drop (i + 1) all)) a) ∙ before)
 
--- the same where the things that are there stand for others
-pub turn_of : {X Y A : Type 0} (f : X → Answer A) (g : Y → A) (all : List X) (i : ℕ) (x d : X) (list new : List Y) (y : Y) (total : Answer (List A)) → i < length all → x ≡ get_or all i d → f x ≡ Ok (g y) → new ≡ list ++ y ∷ [] → behind (map g list) (all_of (map f (drop i all))) ≡ total → behind (map g new) (all_of (map f (drop (i + 1) all))) ≡ total
-turn_of f g all i x d list new y total h e a n w =
-    let here : drop i all ≡ x ∷ drop (i + 1) all = drop_more all i d h ∙ ap (λ z. z ∷ drop (i + 1) all) (sym e) in
-    let before : behind (map g list) (all_of (map f (x ∷ drop (i + 1) all))) ≡ total = subst (λ l. behind (map g list) (all_of (map f l)) ≡ total) here w in
-    let grown : map g new ≡ map g list ++ g y ∷ [] = ap (map g) n ∙ map-append g list (y ∷ []) in
-    subst (λ l. behind l (all_of (map f (drop (i + 1) all))) ≡ total) (sym grown) (sym (turn (map g list) (g y) (f x) (map f (drop (i + 1) all)) a) ∙ before)
-
 -- the same where something is done to each thing first
-pub turn_at : {X P Y A : Type 0} (f : P → Answer A) (j : X → P) (g : Y → A) (all : List X) (i : ℕ) (x d : X) (list new : List Y) (y : Y) (total : Answer (List A)) → i < length all → x ≡ get_or all i d → f (j x) ≡ Ok (g y) → new ≡ list ++ y ∷ [] → behind (map g list) (all_of (map f (map j (drop i all)))) ≡ total → behind (map g new) (all_of (map f (map j (drop (i + 1) all)))) ≡ total
-turn_at f j g all i x d list new y total h e a n w =
+pub turn_at : {X P A : Type 0} (f : P → Answer A) (j : X → P) (all : List X) (i : ℕ) (x d : X) (list new : List A) (y : A) (total : Answer (List A)) → i < length all → x ≡ get_or all i d → f (j x) ≡ Ok y → new ≡ list ++ y ∷ [] → behind list (all_of (map f (map j (drop i all)))) ≡ total → behind new (all_of (map f (map j (drop (i + 1) all)))) ≡ total
+turn_at f j all i x d list new y total h e a n w =
     let here : drop i all ≡ x ∷ drop (i + 1) all = drop_more all i d h ∙ ap (λ z. z ∷ drop (i + 1) all) (sym e) in
-    let before : behind (map g list) (all_of (map f (map j (x ∷ drop (i + 1) all)))) ≡ total = subst (λ l. behind (map g list) (all_of (map f (map j l))) ≡ total) here w in
-    let grown : map g new ≡ map g list ++ g y ∷ [] = ap (map g) n ∙ map-append g list (y ∷ []) in
-    subst (λ l. behind l (all_of (map f (map j (drop (i + 1) all)))) ≡ total) (sym grown) (sym (turn (map g list) (g y) (f (j x)) (map f (map j (drop (i + 1) all))) a) ∙ before)
+    let before : behind list (all_of (map f (map j (x ∷ drop (i + 1) all)))) ≡ total = subst (λ l. behind list (all_of (map f (map j l))) ≡ total) here w in
+    subst (λ l. behind l (all_of (map f (map j (drop (i + 1) all)))) ≡ total) (sym n) (sym (turn list y (f (j x)) (map f (map j (drop (i + 1) all))) a) ∙ before)

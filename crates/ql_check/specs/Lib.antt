@@ -1,4 +1,4 @@
-pub mod Plain
+pub mod Groups
 pub mod Gives
 pub mod Names
 pub mod Outputs

@@ -1,3 +1,5 @@
+//! Whether an aggregate stands in a resolved expression.
+
 ghost use Rattle.std.specs.Prelude.{◌≡◌, map};
 ghost use Rattle.ql_rel.specs.Aggregates as spec;
 

@@ -1,34 +1,37 @@
-ghost use Rattle.std.specs.Prelude.{◌≡◌, Ok, map, option_map};
+//! Conversions and the calls of functions.
+
+ghost use Rattle.std.specs.Prelude.{◌≡◌, Ok};
 ghost use Rattle.ql_syntax.specs.Typing as types;
 ghost use Rattle.ql_rel.specs.Calls as spec;
 ghost use Rattle.ql_rel.specs.Operands.{types as types_of};
 ghost use Rattle.ql_check.specs.Gives.{Gives};
-ghost use Rattle.ql_check.specs.Plain.{plain, test_of, typing_of};
+ghost use Rattle.ql_check.specs.Groups.{test_of};
 
 use crate::CheckFault;
-use crate::checked::{Checked, CheckedList, kind_or_int64, known, literal_in, ruled};
+use crate::checked::{kind_or_int64, literal_in, of_type, require_type};
 use crate::fault::refused;
 use crate::parts::{first_kind, meet_all, meet_each, trees};
-use crate::table::{Group, Typing, among, given_type, meet, truth_of};
+use crate::table::{Group, among, given_type, meet, truth_of};
 use ql_edge::Boxed;
-use ql_syntax::{Function, Typed};
+use ql_rel::{Checked, CheckedList};
+use ql_syntax::{Function, Typed, Typing};
 use ql_value::{AGGREGATE, COUNT, Kind};
 use std::alloc::Global;
 
 /// A conversion by the table of operators.
 fn convert_by_table(alloc: Global, kind: Kind, part: Checked) -> Result<Checked, CheckFault>
-    ensures { Gives plain (spec.convert_by_table kind (plain part)) result }
+    ensures { Gives (spec.convert_by_table kind part) result }
 {
     let from = among(Group::Into(kind), part.typing);
-    let typing = ruled(alloc, given_type(from, Typing::OfKind(kind)))?;
+    let typing = require_type(alloc, given_type(from, Typing::OfKind(kind)))?;
     let part = Boxed::new(alloc, part.tree)?;
-    Ok(known(typing, Typed::Convert { kind, part }))
+    Ok(of_type(typing, Typed::Convert { kind, part }))
 }
 
 /// A conversion. A literal has to be within an integer kind.
 #[inline(never)]
 pub(crate) fn convert_to(alloc: Global, kind: Kind, part: Checked) -> Result<Checked, CheckFault>
-    ensures { Gives plain (spec.convert_to kind (plain part)) result }
+    ensures { Gives (spec.convert_to kind part) result }
 {
     if !kind.is_integer() {
         return convert_by_table(alloc, kind, part);
@@ -41,7 +44,7 @@ pub(crate) fn convert_to(alloc: Global, kind: Kind, part: Checked) -> Result<Che
 
 /// The type of the one part of `len`.
 fn length_type(parts: &[Checked]) -> Typing
-    ensures { typing_of result ≡ types.call_type Function.Len (types_of (map plain parts.now)) }
+    ensures { result ≡ types.call_type Function.Len (types_of parts.now) }
 {
     if parts.len() != 1 {
         return Typing::Ill;
@@ -54,7 +57,7 @@ fn length_type(parts: &[Checked]) -> Typing
 
 /// The type of a question to two strings.
 fn question_type(parts: &[Checked]) -> Typing
-    ensures { typing_of result ≡ types.call_type Function.Contains (types_of (map plain parts.now)) }
+    ensures { result ≡ types.call_type Function.Contains (types_of parts.now) }
 {
     if parts.len() != 2 {
         return Typing::Ill;
@@ -64,7 +67,7 @@ fn question_type(parts: &[Checked]) -> Typing
 
 /// The one type of the parts of coalesce.
 fn coalesce_type(parts: &[Checked]) -> Typing
-    ensures { typing_of result ≡ types.call_type Function.Coalesce (types_of (map plain parts.now)) }
+    ensures { result ≡ types.call_type Function.Coalesce (types_of parts.now) }
 {
     match parts.split_first() {
         Some((first, rest)) => meet_all(first.typing, rest),
@@ -74,7 +77,7 @@ fn coalesce_type(parts: &[Checked]) -> Typing
 
 /// What a call gives.
 fn call_type(function: Function, parts: &[Checked]) -> Typing
-    ensures { typing_of result ≡ types.call_type function (types_of (map plain parts.now)) }
+    ensures { result ≡ types.call_type function (types_of parts.now) }
 {
     match function {
         Function::Len => length_type(parts),
@@ -90,16 +93,16 @@ fn call_by_table(
     function: Function,
     parts: CheckedList,
 ) -> Result<Checked, CheckFault>
-    ensures { Gives plain (spec.call_by_table function (map plain parts)) result }
+    ensures { Gives (spec.call_by_table function parts) result }
 {
-    let typing = ruled(alloc, call_type(function, parts.as_slice()))?;
+    let typing = require_type(alloc, call_type(function, parts.as_slice()))?;
     let parts = trees(alloc, parts)?;
-    Ok(known(typing, Typed::Call { function, parts }))
+    Ok(of_type(typing, Typed::Call { function, parts }))
 }
 
 /// coalesce
 fn coalesce_of(alloc: Global, parts: CheckedList) -> Result<Checked, CheckFault>
-    ensures { Gives plain (spec.coalesce_of (map plain parts)) result }
+    ensures { Gives (spec.coalesce_of parts) result }
 {
     let typing = first_kind(parts.as_slice());
     let parts = meet_each(alloc, typing, parts)?;
@@ -125,7 +128,7 @@ pub(crate) fn row_call(
     function: Function,
     parts: CheckedList,
 ) -> Result<Checked, CheckFault>
-    ensures { Gives plain (spec.row_call function (map plain parts)) result }
+    ensures { Gives (spec.row_call function parts) result }
 {
     if !takes(function, parts.len()) {
         return Err(refused(alloc, COUNT));
@@ -148,20 +151,20 @@ pub fn is_aggregate(function: Function) -> bool
 
 /// The first part.
 fn first(parts: CheckedList) -> Option<Checked>
-    ensures { option_map plain result ≡ spec.first_part (map plain parts) }
+    ensures { result ≡ spec.first_part parts }
 {
     parts.into_vec().into_iter().next()
 }
 
 /// `count` of a part, or of rows.
 fn count_of(alloc: Global, part: Option<Checked>) -> Result<Checked, CheckFault>
-    ensures { Gives plain (Ok (spec.count_of (option_map plain part))) result }
+    ensures { Gives (Ok (spec.count_of part)) result }
 {
     let mut tree = None;
     if let Some(part) = part {
         tree = Some(Boxed::new(alloc, part.tree)?);
     }
-    Ok(known(
+    Ok(of_type(
         Typing::OfKind(Kind::Int64),
         Typed::Aggregate {
             function: Function::Count,
@@ -178,15 +181,15 @@ fn aggregate_of(
     group: Group,
     part: Option<Checked>,
 ) -> Result<Checked, CheckFault>
-    ensures { Gives plain (spec.aggregate_first function (test_of group) (option_map plain part)) result }
+    ensures { Gives (spec.aggregate_first function (test_of group) part) result }
 {
     let Some(part) = part else {
         return Err(refused(alloc, COUNT));
     };
-    let typing = ruled(alloc, among(group, part.typing))?;
+    let typing = require_type(alloc, among(group, part.typing))?;
     let kind = kind_or_int64(typing);
     let tree = Boxed::new(alloc, part.tree)?;
-    Ok(known(
+    Ok(of_type(
         Typing::OfKind(kind),
         Typed::Aggregate {
             function,
@@ -202,7 +205,7 @@ fn group_value(
     function: Function,
     part: Option<Checked>,
 ) -> Result<Checked, CheckFault>
-    ensures { Gives plain (spec.group_value function (option_map plain part)) result }
+    ensures { Gives (spec.group_value function part) result }
 {
     match function {
         Function::Count => count_of(alloc, part),
@@ -220,7 +223,7 @@ pub(crate) fn group_call(
     function: Function,
     parts: CheckedList,
 ) -> Result<Checked, CheckFault>
-    ensures { Gives plain (spec.allowed_call allowed function (map plain parts)) result }
+    ensures { Gives (spec.allowed_call allowed function parts) result }
 {
     if !allowed {
         return Err(refused(alloc, AGGREGATE));

@@ -1,43 +1,22 @@
-ghost use Rattle.std.specs.Prelude.{◌≡◌, Ok, true, false, MatchOption, option_map};
+//! Literals and untyped expressions, and what they take from what they meet.
+
+ghost use Rattle.std.specs.Prelude.{◌≡◌, Ok, true, false, MatchOption};
 ghost use Rattle.ql_value.specs.Number.{IsInteger, has_number};
 ghost use Rattle.ql_rel.specs.Checked as spec;
-ghost use Rattle.ql_check.specs.Gives.{Gives, same};
-ghost use Rattle.ql_check.specs.Plain.{plain, plain_literal, typing_of};
+ghost use Rattle.ql_check.specs.Gives.{Gives};
 
 use crate::CheckFault;
 use crate::fault::refused;
-use crate::table::{Typing, same_kind};
-use ql_edge::{Boxed, Items};
-use ql_syntax::Typed;
+use crate::table::same_kind;
+use ql_edge::Boxed;
+use ql_rel::{Checked, Literal};
+use ql_syntax::{Typed, Typing};
 use ql_value::{CONSTANT_RANGE, Kind, TYPE, Value, convert, fit};
 use std::alloc::Global;
 
-/// An integer literal, with or without one minus before it.
-#[derive(Clone, Copy, Debug)]
-pub(crate) struct Literal {
-    pub minus: bool,
-    pub size: u64,
-}
-
-/// What is known of an expression whose names are resolved.
-#[derive(Drop)]
-pub(crate) struct Checked {
-    /// The literal that the expression is.
-    pub literal: Option<Literal>,
-    /// Whether it has no kind of its own.
-    pub untyped: bool,
-    /// Its type, int64 where it is untyped.
-    pub typing: Typing,
-    /// The expression. An untyped one computes in int64.
-    pub tree: Typed,
-}
-
-/// Expressions in the order of the text.
-pub(crate) type CheckedList = Items<Checked>;
-
 /// An expression that has a type of its own.
-pub(crate) fn known(typing: Typing, tree: Typed) -> Checked
-    ensures { plain result ≡ spec.known (typing_of typing) tree }
+pub(crate) fn of_type(typing: Typing, tree: Typed) -> Checked
+    ensures { result ≡ spec.of_type typing tree }
 {
     Checked {
         literal: None,
@@ -49,7 +28,7 @@ pub(crate) fn known(typing: Typing, tree: Typed) -> Checked
 
 /// The number that a literal means.
 fn number_of(literal: Literal) -> i128
-    ensures { result ≡ spec.number_of (plain_literal literal) }
+    ensures { result ≡ spec.number_of literal }
 {
     let size = i128::from(literal.size);
     if literal.minus { -size } else { size }
@@ -76,7 +55,7 @@ fn literal_kind(number: i128) -> Kind
 /// A literal. It is untyped within int64.
 #[inline(never)]
 pub(crate) fn literal_of(alloc: Global, literal: Literal) -> Result<Checked, CheckFault>
-    ensures { Gives plain (Ok (spec.literal_of (plain_literal literal))) result }
+    ensures { Gives (Ok (spec.literal_of literal)) result }
 {
     let number = number_of(literal);
     let kind = literal_kind(number);
@@ -91,8 +70,8 @@ pub(crate) fn literal_of(alloc: Global, literal: Literal) -> Result<Checked, Che
 
 /// The same expression in brackets.
 #[inline(never)]
-pub(crate) fn bracketed(checked: Checked) -> Checked
-    ensures { plain result ≡ spec.bracketed (plain checked) }
+pub(crate) fn in_brackets(checked: Checked) -> Checked
+    ensures { result ≡ spec.in_brackets checked }
 {
     Checked {
         literal: None,
@@ -103,17 +82,17 @@ pub(crate) fn bracketed(checked: Checked) -> Checked
 /// A literal as a number of an integer kind.
 pub(crate) fn literal_in(alloc: Global, kind: Kind, literal: Literal) -> Result<Checked, CheckFault>
     requires { IsInteger kind }
-    ensures { Gives plain (spec.literal_in kind (plain_literal literal)) result }
+    ensures { Gives (spec.literal_in kind literal) result }
 {
     match fit(kind, number_of(literal)) {
-        Ok(value) => Ok(known(Typing::OfKind(kind), Typed::Constant(value))),
+        Ok(value) => Ok(of_type(Typing::OfKind(kind), Typed::Constant(value))),
         Err(_) => Err(refused(alloc, CONSTANT_RANGE)),
     }
 }
 
 /// A value computed in int64 as one of an integer kind.
-fn narrowed(alloc: Global, kind: Kind, tree: Typed) -> Result<Typed, CheckFault>
-    ensures { Gives same (Ok (spec.narrowed kind tree)) result }
+fn narrow(alloc: Global, kind: Kind, tree: Typed) -> Result<Typed, CheckFault>
+    ensures { Gives (Ok (spec.narrow kind tree)) result }
 {
     if same_kind(kind, Kind::Int64) {
         return Ok(tree);
@@ -130,17 +109,19 @@ pub(crate) fn take_kind(
     tree: Typed,
 ) -> Result<Checked, CheckFault>
     requires { IsInteger kind }
-    ensures { Gives plain (spec.take_kind kind (option_map plain_literal literal) tree) result }
+    ensures { Gives (spec.take_kind kind literal tree) result }
 {
     match literal {
         Some(literal) => literal_in(alloc, kind, literal),
-        None => Ok(known(Typing::OfKind(kind), narrowed(alloc, kind, tree)?)),
+        None => Ok(of_type(Typing::OfKind(kind), narrow(alloc, kind, tree)?)),
     }
 }
 
 /// The integer kind that a type is.
 pub(crate) fn integer_of(typing: Typing) -> Option<Kind>
-    ensures { MatchOption result (spec.is_number_type (typing_of typing) ≡ false) (λ kind. (spec.is_number_type (typing_of typing) ≡ true) × (spec.kind_or_int64 (typing_of typing) ≡ kind) × IsInteger kind) }
+    ensures { MatchOption result (spec.is_number_type typing ≡ false)
+        (λ kind. (spec.is_number_type typing ≡ true) × (spec.kind_or_int64 typing ≡ kind)
+        × IsInteger kind) }
 {
     match typing {
         Typing::OfKind(kind) => { if kind.is_integer() { Some(kind) } else { None } }
@@ -150,7 +131,7 @@ pub(crate) fn integer_of(typing: Typing) -> Option<Kind>
 
 /// The kind of a type, or int64 where it has none.
 pub(crate) fn kind_or_int64(typing: Typing) -> Kind
-    ensures { result ≡ spec.kind_or_int64 (typing_of typing) }
+    ensures { result ≡ spec.kind_or_int64 typing }
 {
     match typing {
         Typing::OfKind(kind) => kind,
@@ -164,7 +145,7 @@ pub(crate) fn meet_type(
     typing: Typing,
     checked: Checked,
 ) -> Result<Checked, CheckFault>
-    ensures { Gives plain (spec.meet_type (typing_of typing) (plain checked)) result }
+    ensures { Gives (spec.meet_type typing checked) result }
 {
     if !checked.untyped {
         return Ok(checked);
@@ -176,8 +157,8 @@ pub(crate) fn meet_type(
 }
 
 /// The type, where the table of operators has one.
-pub(crate) fn ruled(alloc: Global, typing: Typing) -> Result<Typing, CheckFault>
-    ensures { Gives typing_of (spec.ruled (typing_of typing)) result }
+pub(crate) fn require_type(alloc: Global, typing: Typing) -> Result<Typing, CheckFault>
+    ensures { Gives (spec.require_type typing) result }
 {
     match typing {
         Typing::Ill => Err(refused(alloc, TYPE)),

@@ -1,3 +1,5 @@
+//! Copies of resolved expressions.
+
 ghost use Rattle.std.specs.Prelude.{◌≡◌, IfOk};
 
 use ql_edge::{Boxed, NoMemory};
@@ -19,10 +21,9 @@ pub(crate) fn copy_typed(alloc: Global, tree: &Typed) -> Result<Typed, NoMemory>
             Ok(Typed::Chain { first, rest })
         }
         Typed::Unary { ops, part } => {
-            let mut copy = UnOps::new(alloc);
-            copy.extend(ops.as_slice())?;
+            let ops = UnOps::from_slice(alloc, ops.as_slice())?;
             let part = copy_boxed(alloc, part)?;
-            Ok(Typed::Unary { ops: copy, part })
+            Ok(Typed::Unary { ops, part })
         }
         Typed::Convert { kind, part } => {
             let part = copy_boxed(alloc, part)?;

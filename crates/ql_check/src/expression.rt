@@ -1,26 +1,26 @@
+//! What is known of an expression in a scope, or its first refusal.
+
 ghost use Rattle.std.specs.Prelude.{◌≡◌, Ok, map};
 ghost use Rattle.ql_rel.specs.Answers.{refused as spec_refused, then_with};
 ghost use Rattle.ql_rel.specs.Calls.{convert_to as spec_convert_to};
-ghost use Rattle.ql_rel.specs.Checked.{bracketed as spec_bracketed};
-ghost use Rattle.ql_rel.specs.Operands.{front_of as spec_front_of, stepped, chained as spec_chained, whole as spec_whole, prefixed as spec_prefixed, null_test as spec_null_test};
-ghost use Rattle.ql_rel.specs.Scopes as scopes;
+ghost use Rattle.ql_rel.specs.Checked.{in_brackets as spec_in_brackets};
+ghost use Rattle.ql_rel.specs.Operands.{front_of as spec_front_of, add_step, add_steps, whole as spec_whole, apply_ops as spec_apply_ops, null_test as spec_null_test};
 ghost use Rattle.ql_rel.specs.Types as spec;
 ghost use Rattle.ql_check.specs.Forms.{IsBetween, IsChain, IsIn};
 ghost use Rattle.ql_check.specs.Gives.{Gives};
-ghost use Rattle.ql_check.specs.Names.{bytes_of, plain_scope};
-ghost use Rattle.ql_check.specs.Plain.{plain, plain_front};
+ghost use Rattle.ql_check.specs.Names.{bytes_of};
 
 use crate::CheckFault;
 use crate::call::{convert_to, group_call, is_aggregate, row_call};
-use crate::checked::{Checked, CheckedList, Literal, bracketed, known, literal_of};
+use crate::checked::{in_brackets, literal_of, of_type};
 use crate::fault::refused;
-use crate::front::{Front, front_of, linked, whole};
+use crate::front::{add_link, front_of, whole};
 use crate::predicate::{between, in_list, null_test};
-use crate::prefix::prefixed;
-use crate::scope::{Scope, column_of, id_of_all, id_of_set};
-use crate::table::Typing;
+use crate::prefix::apply_ops;
+use crate::scope::{column_of, id_of_all, id_of_set};
 use ql_edge::{Boxed, Bytes, Name};
-use ql_syntax::{Expr, Exprs, Function, Link, Links, Typed};
+use ql_rel::{Checked, CheckedList, Front, Literal, Scope};
+use ql_syntax::{Expr, Exprs, Function, Link, Links, Typed, Typing};
 use ql_value::{COUNT, Kind, LATER, TYPE, UnOp, Value};
 use std::alloc::Global;
 
@@ -37,11 +37,10 @@ fn name_bytes(name: &Option<Boxed<Name>>) -> Option<&[u8]>
 /// A string.
 #[inline(never)]
 fn text(alloc: Global, bytes: &Bytes) -> Result<Checked, CheckFault>
-    ensures { Gives plain (Ok (spec.text_of bytes.now)) result }
+    ensures { Gives (Ok (spec.text_of bytes.now)) result }
 {
-    let mut copy = Bytes::new(alloc);
-    copy.extend(bytes.as_slice())?;
-    Ok(known(
+    let copy = Bytes::from_slice(alloc, bytes.as_slice())?;
+    Ok(of_type(
         Typing::OfKind(Kind::Text),
         Typed::Constant(Value::Text(copy)),
     ))
@@ -49,7 +48,7 @@ fn text(alloc: Global, bytes: &Bytes) -> Result<Checked, CheckFault>
 
 /// The name without a table that an expression is.
 fn bare_name(expr: &Expr) -> Option<&[u8]>
-    ensures { (scope : scopes.Scope) → bytes_of result ≡ spec.bare_name (spec.judge scope expr.now).ref }
+    ensures { (scope : Scope) → bytes_of result ≡ spec.bare_name (spec.judge scope expr.now).ref }
 {
     match expr {
         Expr::Column { table, column } => match table {
@@ -90,7 +89,7 @@ pub(crate) fn check_expr(
     scope: &Scope,
     aggregates: bool,
 ) -> Result<Checked, CheckFault>
-    ensures { Gives plain ((spec.judge (plain_scope scope.now) expr.now).answer aggregates) result }
+    ensures { Gives (spec.checked scope.now aggregates expr.now) result }
 {
     match expr {
         Expr::Chain { .. } => check_chain(alloc, expr, scope, aggregates),
@@ -105,11 +104,11 @@ pub(crate) fn check_expr(
             },
         ),
         Expr::Text(bytes) => text(alloc, bytes),
-        Expr::Truth(truth) => Ok(known(
+        Expr::Truth(truth) => Ok(of_type(
             Typing::OfKind(Kind::Bool),
             Typed::Constant(Value::Bool(*truth)),
         )),
-        Expr::Null => Ok(known(Typing::OnlyNull, Typed::Constant(Value::Null))),
+        Expr::Null => Ok(of_type(Typing::OnlyNull, Typed::Constant(Value::Null))),
         Expr::Column { table, column } => {
             column_of(alloc, scope, name_bytes(table), column.get().as_slice())
         }
@@ -141,12 +140,12 @@ fn check_chain(
     aggregates: bool,
 ) -> Result<Checked, CheckFault>
     requires { IsChain expr.now }
-    ensures { Gives plain ((spec.judge (plain_scope scope.now) expr.now).answer aggregates) result }
+    ensures { Gives (spec.checked scope.now aggregates expr.now) result }
 {
     match expr {
         Expr::Chain { first, rest } => {
             let first = check_expr(alloc, first.get(), scope, aggregates)?;
-            chained(alloc, rest.get(), scope, aggregates, first)
+            check_links(alloc, rest.get(), scope, aggregates, first)
         }
         _ => unreachable!(),
     }
@@ -162,7 +161,7 @@ fn check_in(
     aggregates: bool,
 ) -> Result<Checked, CheckFault>
     requires { IsIn expr.now }
-    ensures { Gives plain ((spec.judge (plain_scope scope.now) expr.now).answer aggregates) result }
+    ensures { Gives (spec.checked scope.now aggregates expr.now) result }
 {
     match expr {
         Expr::IsIn { not, part, list } => {
@@ -184,7 +183,7 @@ fn check_between(
     aggregates: bool,
 ) -> Result<Checked, CheckFault>
     requires { IsBetween expr.now }
-    ensures { Gives plain ((spec.judge (plain_scope scope.now) expr.now).answer aggregates) result }
+    ensures { Gives (spec.checked scope.now aggregates expr.now) result }
 {
     match expr {
         Expr::IsBetween {
@@ -212,10 +211,11 @@ fn check_unary(
     aggregates: bool,
     ops: &[UnOp],
 ) -> Result<Checked, CheckFault>
-    ensures { Gives plain (then_with ((spec.judge (plain_scope scope.now) part.now).answer aggregates) (spec_prefixed ops.now)) result }
+    ensures { Gives (then_with (spec.checked scope.now aggregates part.now)
+        (spec_apply_ops ops.now)) result }
 {
     let part = check_expr(alloc, part, scope, aggregates)?;
-    prefixed(alloc, ops, part)
+    apply_ops(alloc, ops, part)
 }
 
 /// A part in brackets.
@@ -227,10 +227,11 @@ fn check_paren(
     scope: &Scope,
     aggregates: bool,
 ) -> Result<Checked, CheckFault>
-    ensures { Gives plain (then_with ((spec.judge (plain_scope scope.now) part.now).answer aggregates) (λ c. Ok (spec_bracketed c))) result }
+    ensures { Gives (then_with (spec.checked scope.now aggregates part.now)
+        (λ c. Ok (spec_in_brackets c))) result }
 {
     let part = check_expr(alloc, part, scope, aggregates)?;
-    Ok(bracketed(part))
+    Ok(in_brackets(part))
 }
 
 /// A conversion.
@@ -243,7 +244,8 @@ fn check_convert(
     aggregates: bool,
     kind: Kind,
 ) -> Result<Checked, CheckFault>
-    ensures { Gives plain (then_with ((spec.judge (plain_scope scope.now) part.now).answer aggregates) (spec_convert_to kind)) result }
+    ensures { Gives (then_with (spec.checked scope.now aggregates part.now)
+        (spec_convert_to kind)) result }
 {
     let part = check_expr(alloc, part, scope, aggregates)?;
     convert_to(alloc, kind, part)
@@ -258,7 +260,8 @@ fn check_in_select(
     scope: &Scope,
     aggregates: bool,
 ) -> Result<Checked, CheckFault>
-    ensures { Gives plain (then_with ((spec.judge (plain_scope scope.now) part.now).answer aggregates) (λ c. spec_refused LATER)) result }
+    ensures { Gives (then_with (spec.checked scope.now aggregates part.now)
+        (λ c. spec_refused LATER)) result }
 {
     check_expr(alloc, part, scope, aggregates)?;
     Err(refused(alloc, LATER))
@@ -274,7 +277,8 @@ fn check_null_test(
     aggregates: bool,
     negated: bool,
 ) -> Result<Checked, CheckFault>
-    ensures { Gives plain (then_with ((spec.judge (plain_scope scope.now) part.now).answer aggregates) (λ c. Ok (spec_null_test negated c))) result }
+    ensures { Gives (then_with (spec.checked scope.now aggregates part.now)
+        (λ c. Ok (spec_null_test negated c))) result }
 {
     let part = check_expr(alloc, part, scope, aggregates)?;
     null_test(alloc, negated, part)
@@ -283,14 +287,15 @@ fn check_null_test(
 /// The links of a chain behind its first part.
 #[cycle(check)]
 #[inline(never)]
-fn chained(
+fn check_links(
     alloc: Global,
     links: &Links,
     scope: &Scope,
     aggregates: bool,
     first: Checked,
 ) -> Result<Checked, CheckFault>
-    ensures { Gives plain (then_with (spec_chained (spec_front_of (plain first)) (spec.steps aggregates (map (spec.judge_link (plain_scope scope.now)) links.now))) (λ g. Ok (spec_whole g))) result }
+    ensures { let steps = spec.steps aggregates (map (spec.judge_link scope.now) links.now) in
+        Gives (then_with (add_steps (spec_front_of first) steps) (λ g. Ok (spec_whole g))) result }
 {
     let mut front = front_of(alloc, first);
     'links: for link in links.as_slice() {
@@ -308,10 +313,11 @@ fn check_link(
     aggregates: bool,
     front: Front,
 ) -> Result<Front, CheckFault>
-    ensures { Gives plain_front (stepped (plain_front front) (spec.step_of aggregates (spec.judge_link (plain_scope scope.now) link.now))) result }
+    ensures { Gives (add_step front (spec.step_of aggregates (spec.judge_link scope.now link.now)))
+        result }
 {
     let part = check_expr(alloc, &link.part, scope, aggregates)?;
-    linked(alloc, link.op, front, part)
+    add_link(alloc, link.op, front, part)
 }
 
 /// Expressions from left to right.
@@ -323,7 +329,7 @@ fn check_exprs(
     scope: &Scope,
     aggregates: bool,
 ) -> Result<CheckedList, CheckFault>
-    ensures { Gives (map plain) (spec.answers aggregates (map (spec.judge (plain_scope scope.now)) exprs.now)) result }
+    ensures { Gives (spec.answers aggregates (map (spec.judge scope.now) exprs.now)) result }
 {
     let mut list = CheckedList::new(alloc);
     'exprs: for expr in exprs.as_slice() {
@@ -342,7 +348,8 @@ fn call(
     aggregates: bool,
     function: Function,
 ) -> Result<Checked, CheckFault>
-    ensures { Gives plain (spec.call (plain_scope scope.now) aggregates function (map (spec.judge (plain_scope scope.now)) parts.now)) result }
+    ensures { Gives (spec.call scope.now aggregates function (map (spec.judge scope.now) parts.now))
+        result }
 {
     if is_id(function) {
         return id_call(alloc, parts, scope, aggregates);
@@ -364,7 +371,8 @@ fn id_call(
     scope: &Scope,
     aggregates: bool,
 ) -> Result<Checked, CheckFault>
-    ensures { Gives plain (spec.id_call (plain_scope scope.now) aggregates (map (spec.judge (plain_scope scope.now)) parts.now)) result }
+    ensures { Gives (spec.id_call scope.now aggregates (map (spec.judge scope.now) parts.now))
+        result }
 {
     if parts.len() == 0 {
         return id_of_all(alloc, scope);
@@ -384,7 +392,8 @@ fn id_of_part(
     scope: &Scope,
     aggregates: bool,
 ) -> Result<Checked, CheckFault>
-    ensures { Gives plain (spec.id_of_part (plain_scope scope.now) (spec.bare_name (spec.judge (plain_scope scope.now) part.now).ref) ((spec.judge (plain_scope scope.now) part.now).answer aggregates)) result }
+    ensures { let name = spec.bare_name (spec.judge scope.now part.now).ref in
+        Gives (spec.id_of_part scope.now name (spec.checked scope.now aggregates part.now)) result }
 {
     match bare_name(part) {
         Some(name) => id_of_set(alloc, scope, name),

@@ -1,3 +1,5 @@
+//! Why a statement has no plan.
+
 ghost use Rattle.std.specs.Prelude.{◌≡◌, []};
 ghost use Rattle.ql_check.specs.declared.fault.CheckFault.TheVariants as variant;
 

@@ -1,27 +1,18 @@
-ghost use Rattle.std.specs.Prelude.{◌≡◌, [], ◌∷◌, ◌++◌, Some, map, IfOk};
-ghost use Rattle.ql_syntax.specs.Typing.{of_kind};
+//! The record sets of a FROM.
+
+ghost use Rattle.std.specs.Prelude.{◌≡◌, [], ◌∷◌, ◌++◌, Some, IfOk};
 ghost use Rattle.ql_rel.specs.Plans as spec;
 ghost use Rattle.ql_check.specs.Gives.{Gives};
-ghost use Rattle.ql_check.specs.Names.{plain_slot, table_of};
+ghost use Rattle.ql_check.specs.Names.{table_of};
 
 use crate::CheckFault;
 use crate::fault::refused;
-use crate::scope::{Slot, Slots, is_called, refused_at};
-use crate::table::Typing;
+use crate::scope::{is_called, refused_at};
 use ql_edge::{Boxed, Bytes, Name, NoMemory};
-use ql_rel::{Schema, TableSchema, TableSchemas};
-use ql_syntax::{ColumnDef, ColumnDefs, FromSet, FromSets, SetSource};
+use ql_rel::{Schema, Slot, Slots, TableSchema, TableSchemas};
+use ql_syntax::{ColumnDef, ColumnDefs, FromSet, FromSets, SetSource, Typing};
 use ql_value::{AMBIGUOUS, Kind, LATER, NO_TABLE};
 use std::alloc::Global;
-
-/// A list of these bytes.
-pub(crate) fn copy_bytes(alloc: Global, bytes: &[u8]) -> Result<Bytes, NoMemory>
-    ensures { IfOk result (λ copy. copy ≡ bytes.now) }
-{
-    let mut copy = Bytes::new(alloc);
-    copy.extend(bytes)?;
-    Ok(copy)
-}
 
 /// The table with a name.
 fn table_named<'a>(name: &[u8], tables: &'a TableSchemas) -> Option<&'a TableSchema>
@@ -44,7 +35,7 @@ fn is_metadata(name: &[u8]) -> bool
 
 /// Whether some record set has the name.
 fn is_taken(name: &[u8], slots: &[Slot]) -> bool
-    ensures { result ≡ spec.is_taken name.now (map plain_slot slots.now) }
+    ensures { result ≡ spec.is_taken name.now slots.now }
 {
     'slots: for slot in slots {
         if is_called(&slot.set, name) {
@@ -56,11 +47,14 @@ fn is_taken(name: &[u8], slots: &[Slot]) -> bool
 
 /// A place for a column of a record set.
 fn column_slot(alloc: Global, set: &[u8], column: &ColumnDef) -> Result<Slot, NoMemory>
-    ensures { IfOk result (λ slot. plain_slot slot ≡ record { set = Some set.now; column = Some column.now.name; type = of_kind column.now.kind }) }
+    ensures { let typing = Typing.OfKind column.now.kind in
+        IfOk result
+        (λ slot. slot ≡
+        record { set = Some set.now; column = Some column.now.name; typing = typing }) }
 {
     Ok(Slot {
-        set: Some(copy_bytes(alloc, set)?),
-        column: Some(copy_bytes(alloc, column.name.as_slice())?),
+        set: Some(Bytes::from_slice(alloc, set)?),
+        column: Some(Bytes::from_slice(alloc, column.name.as_slice())?),
         typing: Typing::OfKind(column.kind),
     })
 }
@@ -72,11 +66,11 @@ fn add_slots(
     set: &[u8],
     columns: &ColumnDefs,
 ) -> Result<Slots, NoMemory>
-    ensures { IfOk result (λ slots. map plain_slot slots ≡ map plain_slot before ++ spec.set_slots set.now columns.now) }
+    ensures { IfOk result (λ slots. slots ≡ before ++ spec.set_slots set.now columns.now) }
 {
     let mut slots = before;
     slots.push(Slot {
-        set: Some(copy_bytes(alloc, set)?),
+        set: Some(Bytes::from_slice(alloc, set)?),
         column: None,
         typing: Typing::OfKind(Kind::Int64),
     })?;
@@ -94,7 +88,7 @@ fn add_table(
     name: &[u8],
     table: Option<&TableSchema>,
 ) -> Result<Slots, CheckFault>
-    ensures { Gives (map plain_slot) (spec.add_table (map plain_slot slots) set.now name.now (table_of table.entry)) result }
+    ensures { Gives (spec.add_table slots set.now name.now (table_of table.entry)) result }
 {
     let Some(table) = table else {
         return Err(refused_at(alloc, NO_TABLE, name));
@@ -123,7 +117,7 @@ fn add_named(
     alias: &Option<Boxed<Name>>,
     name: &Name,
 ) -> Result<Slots, CheckFault>
-    ensures { Gives (map plain_slot) (spec.add_named schema.now (map plain_slot slots) alias.now name.now) result }
+    ensures { Gives (spec.add_named schema.now slots alias.now name.now) result }
 {
     if is_metadata(name.as_slice()) {
         return Err(refused(alloc, LATER));
@@ -134,7 +128,7 @@ fn add_named(
 
 /// A further record set.
 fn add_set(alloc: Global, schema: &Schema, slots: Slots, set: &FromSet) -> Result<Slots, CheckFault>
-    ensures { Gives (map plain_slot) (spec.add_set schema.now (map plain_slot slots) set.now) result }
+    ensures { Gives (spec.add_set schema.now slots set.now) result }
 {
     match &set.source {
         SetSource::Table(name) => add_named(alloc, schema, slots, &set.alias, name.get()),
@@ -144,7 +138,7 @@ fn add_set(alloc: Global, schema: &Schema, slots: Slots, set: &FromSet) -> Resul
 
 /// The record sets of a FROM, from left to right.
 pub(crate) fn add_sets(alloc: Global, schema: &Schema, sets: &FromSets) -> Result<Slots, CheckFault>
-    ensures { Gives (map plain_slot) (spec.add_sets schema.now [] sets.now) result }
+    ensures { Gives (spec.add_sets schema.now [] sets.now) result }
 {
     let mut slots = Slots::new(alloc);
     'sets: for set in sets.as_slice() {

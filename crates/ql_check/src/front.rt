@@ -1,26 +1,19 @@
+//! Chains, link by link.
 #![tactic(auto, using(crate::proofs::Fronts::whole_none, crate::proofs::Fronts::whole_some))]
 
 ghost use Rattle.std.specs.Prelude.{◌≡◌, Ok};
 ghost use Rattle.ql_rel.specs.Operands as spec;
 ghost use Rattle.ql_check.specs.Gives.{Gives};
-ghost use Rattle.ql_check.specs.Plain.{plain, plain_front, typing_of};
 
 use crate::CheckFault;
-use crate::checked::{Checked, integer_of, meet_type, ruled, take_kind};
+use crate::checked::{integer_of, meet_type, require_type, take_kind};
 use crate::fault::refused;
-use crate::table::{Typing, operator_type};
+use crate::table::operator_type;
 use ql_edge::Boxed;
-use ql_syntax::{Typed, TypedLink, TypedLinks};
+use ql_rel::{Checked, Front};
+use ql_syntax::{Typed, TypedLink, TypedLinks, Typing};
 use ql_value::{BinOp, LATER};
 use std::alloc::Global;
-
-/// The front of a chain: what is known of the whole, but for its tree, which is that of the first part; and the links
-/// behind that.
-#[derive(Drop)]
-pub(crate) struct Front {
-    pub first: Checked,
-    pub links: TypedLinks,
-}
 
 /// Whether an untyped side meets the kind of the other side.
 fn shares_kind(op: BinOp) -> bool
@@ -62,7 +55,7 @@ fn is_like(op: BinOp) -> bool
 /// A chain that has its first part alone.
 #[inline(never)]
 pub(crate) fn front_of(alloc: Global, first: Checked) -> Front
-    ensures { plain_front result ≡ spec.front_of (plain first) }
+    ensures { result ≡ spec.front_of first }
 {
     Front {
         first,
@@ -73,7 +66,7 @@ pub(crate) fn front_of(alloc: Global, first: Checked) -> Front
 /// A front as one expression.
 #[inline(never)]
 pub(crate) fn whole(alloc: Global, front: Front) -> Result<Checked, CheckFault>
-    ensures { Gives plain (Ok (spec.whole (plain_front front))) result }
+    ensures { Gives (Ok (spec.whole front)) result }
 {
     let Front { first, links } = front;
     if links.len() > 0 {
@@ -85,7 +78,8 @@ pub(crate) fn whole(alloc: Global, front: Front) -> Result<Checked, CheckFault>
 
 /// A chain with links.
 fn chain(alloc: Global, first: Checked, links: TypedLinks) -> Result<Checked, CheckFault>
-    ensures { Gives plain (Ok (record { literal = None; untyped = first.untyped; type = typing_of first.typing; tree = Typed.Chain first.tree links })) result }
+    ensures { Gives (Ok (record first { literal = None; tree = Typed.Chain first.tree links }))
+        result }
 {
     let part = Boxed::new(alloc, first.tree)?;
     Ok(Checked {
@@ -101,7 +95,7 @@ fn chain(alloc: Global, first: Checked, links: TypedLinks) -> Result<Checked, Ch
 
 /// All that stands before an operator meets the type of what stands behind it.
 fn meet_behind(alloc: Global, typing: Typing, front: Front) -> Result<Front, CheckFault>
-    ensures { Gives plain_front (spec.meet_behind (typing_of typing) (plain_front front)) result }
+    ensures { Gives (spec.meet_behind typing front) result }
 {
     if !front.first.untyped {
         return Ok(front);
@@ -115,14 +109,14 @@ fn meet_behind(alloc: Global, typing: Typing, front: Front) -> Result<Front, Che
 }
 
 /// A front with one link more.
-fn longer(
+fn with_link(
     front: Front,
     op: BinOp,
     part: Typed,
     untyped: bool,
     typing: Typing,
 ) -> Result<Front, CheckFault>
-    ensures { Gives plain_front (Ok (spec.longer (plain_front front) op part untyped (typing_of typing))) result }
+    ensures { Gives (Ok (spec.with_link front op part untyped typing)) result }
 {
     let Front { first, mut links } = front;
     links.push(TypedLink { op, part })?;
@@ -143,15 +137,15 @@ fn by_table(
     front: Front,
     part: Checked,
 ) -> Result<Front, CheckFault>
-    ensures { Gives plain_front (spec.by_table op untyped (plain_front front) (plain part)) result }
+    ensures { Gives (spec.by_table op untyped front part) result }
 {
-    let typing = ruled(alloc, operator_type(op, front.first.typing, part.typing))?;
-    longer(front, op, part.tree, untyped, typing)
+    let typing = require_type(alloc, operator_type(op, front.first.typing, part.typing))?;
+    with_link(front, op, part.tree, untyped, typing)
 }
 
 /// The untyped one of two sides meets the kind of the other.
-fn sharing(alloc: Global, op: BinOp, front: Front, part: Checked) -> Result<Front, CheckFault>
-    ensures { Gives plain_front (spec.sharing op (plain_front front) (plain part)) result }
+fn meet_sides(alloc: Global, op: BinOp, front: Front, part: Checked) -> Result<Front, CheckFault>
+    ensures { Gives (spec.meet_sides op front part) result }
 {
     let typing = front.first.typing;
     let front = meet_behind(alloc, part.typing, front)?;
@@ -161,13 +155,13 @@ fn sharing(alloc: Global, op: BinOp, front: Front, part: Checked) -> Result<Fron
 
 /// A link behind a front.
 #[inline(never)]
-pub(crate) fn linked(
+pub(crate) fn add_link(
     alloc: Global,
     op: BinOp,
     front: Front,
     part: Checked,
 ) -> Result<Front, CheckFault>
-    ensures { Gives plain_front (spec.linked op (plain_front front) (plain part)) result }
+    ensures { Gives (spec.add_link op front part) result }
 {
     if is_like(op) {
         return Err(refused(alloc, LATER));
@@ -176,7 +170,7 @@ pub(crate) fn linked(
         return by_table(alloc, op, is_arithmetic(op), front, part);
     }
     if shares_kind(op) {
-        return sharing(alloc, op, front, part);
+        return meet_sides(alloc, op, front, part);
     }
     by_table(alloc, op, false, front, part)
 }

@@ -1,18 +1,21 @@
-ghost use Rattle.std.specs.Prelude.{◌≡◌, Ok, map};
+//! Parts that meet one type.
+
+ghost use Rattle.std.specs.Prelude.{◌≡◌, Ok};
 ghost use Rattle.ql_syntax.specs.Typing as types;
 ghost use Rattle.ql_rel.specs.Operands as spec;
-ghost use Rattle.ql_check.specs.Gives.{Gives, same};
-ghost use Rattle.ql_check.specs.Plain.{has_kind_of, plain, typing_of};
+ghost use Rattle.ql_check.specs.Gives.{Gives};
+ghost use Rattle.ql_check.specs.Groups.{has_kind_of};
 
 use crate::CheckFault;
-use crate::checked::{Checked, CheckedList, meet_type};
-use crate::table::{Typing, meet};
-use ql_syntax::Typeds;
+use crate::checked::meet_type;
+use crate::table::meet;
+use ql_rel::{Checked, CheckedList};
+use ql_syntax::{Typeds, Typing};
 use std::alloc::Global;
 
 /// The kind of a part that has one, else that of the parts behind it.
 pub(crate) fn kind_before(untyped: bool, typing: Typing, more: Typing) -> Typing
-    ensures { typing_of result ≡ spec.kind_before untyped (typing_of typing) (typing_of more) }
+    ensures { result ≡ spec.kind_before untyped typing more }
 {
     match (untyped, typing) {
         (false, Typing::OfKind(kind)) => Typing::OfKind(kind),
@@ -22,7 +25,7 @@ pub(crate) fn kind_before(untyped: bool, typing: Typing, more: Typing) -> Typing
 
 /// Whether a part has a kind.
 fn has_kind(part: &Checked) -> bool
-    ensures { result ≡ has_kind_of part.now.untyped (typing_of part.now.typing) }
+    ensures { result ≡ has_kind_of part.now.untyped part.now.typing }
 {
     match (part.untyped, part.typing) {
         (false, Typing::OfKind(_)) => true,
@@ -32,7 +35,7 @@ fn has_kind(part: &Checked) -> bool
 
 /// The kind of the first part that has one.
 pub(crate) fn first_kind(parts: &[Checked]) -> Typing
-    ensures { typing_of result ≡ spec.first_kind (map plain parts.now) }
+    ensures { result ≡ spec.first_kind parts.now }
 {
     'parts: for part in parts {
         if has_kind(part) {
@@ -48,7 +51,7 @@ pub(crate) fn meet_each(
     typing: Typing,
     parts: CheckedList,
 ) -> Result<CheckedList, CheckFault>
-    ensures { Gives (map plain) (spec.meet_each (typing_of typing) (map plain parts)) result }
+    ensures { Gives (spec.meet_each typing parts) result }
 {
     let mut met = CheckedList::new(alloc);
     'parts: for part in parts.into_vec() {
@@ -59,7 +62,7 @@ pub(crate) fn meet_each(
 
 /// The one type of a part and further parts.
 pub(crate) fn meet_all(first: Typing, parts: &[Checked]) -> Typing
-    ensures { typing_of result ≡ types.meet_all (typing_of first) (spec.types (map plain parts.now)) }
+    ensures { result ≡ types.meet_all first (spec.types parts.now) }
 {
     let mut typing = first;
     'parts: for part in parts {
@@ -70,7 +73,7 @@ pub(crate) fn meet_all(first: Typing, parts: &[Checked]) -> Typing
 
 /// The expressions of parts.
 pub(crate) fn trees(alloc: Global, parts: CheckedList) -> Result<Typeds, CheckFault>
-    ensures { Gives same (Ok (spec.trees (map plain parts))) result }
+    ensures { Gives (Ok (spec.trees parts)) result }
 {
     let mut trees = Typeds::new(alloc);
     'parts: for part in parts.into_vec() {

@@ -1,29 +1,31 @@
-ghost use Rattle.std.specs.Prelude.{◌≡◌, [], ◌∷◌, Ok, map};
+//! IN, BETWEEN and IS NULL.
+
+ghost use Rattle.std.specs.Prelude.{◌≡◌, [], ◌∷◌, Ok};
 ghost use Rattle.ql_rel.specs.Operands as spec;
-ghost use Rattle.ql_check.specs.Gives.{Gives, same};
-ghost use Rattle.ql_check.specs.Plain.{plain, typing_of};
+ghost use Rattle.ql_check.specs.Gives.{Gives};
 
 use crate::CheckFault;
-use crate::checked::{Checked, CheckedList, known, meet_type, ruled};
+use crate::checked::{meet_type, of_type, require_type};
 use crate::copy::copy_typed;
 use crate::parts::{first_kind, kind_before, meet_all, meet_each, trees};
-use crate::table::{Group, Typing, among, meet, truth_of};
+use crate::table::{Group, among, meet, truth_of};
 use ql_edge::Boxed;
-use ql_syntax::{Typed, TypedLink, TypedLinks};
+use ql_rel::{Checked, CheckedList};
+use ql_syntax::{Typed, TypedLink, TypedLinks, Typing};
 use ql_value::{BinOp, Kind, UnOp, UnOps};
 use std::alloc::Global;
 
 /// A truth, or with NOT its opposite.
 fn truth(alloc: Global, negated: bool, tree: Typed) -> Result<Checked, CheckFault>
-    ensures { Gives plain (Ok (spec.truth negated tree)) result }
+    ensures { Gives (Ok (spec.truth negated tree)) result }
 {
     if !negated {
-        return Ok(known(Typing::OfKind(Kind::Bool), tree));
+        return Ok(of_type(Typing::OfKind(Kind::Bool), tree));
     }
     let mut ops = UnOps::new(alloc);
     ops.push(UnOp::Not)?;
     let part = Boxed::new(alloc, tree)?;
-    Ok(known(Typing::OfKind(Kind::Bool), Typed::Unary { ops, part }))
+    Ok(of_type(Typing::OfKind(Kind::Bool), Typed::Unary { ops, part }))
 }
 
 /// `part IN (list)`
@@ -34,12 +36,12 @@ pub(crate) fn in_list(
     part: Checked,
     list: CheckedList,
 ) -> Result<Checked, CheckFault>
-    ensures { Gives plain (spec.in_list negated (plain part) (map plain list)) result }
+    ensures { Gives (spec.in_list negated part list) result }
 {
     let typing = kind_before(part.untyped, part.typing, first_kind(list.as_slice()));
     let part = meet_type(alloc, typing, part)?;
     let list = meet_each(alloc, typing, list)?;
-    ruled(alloc, truth_of(meet_all(part.typing, list.as_slice())))?;
+    require_type(alloc, truth_of(meet_all(part.typing, list.as_slice())))?;
     let list = trees(alloc, list)?;
     let part = Boxed::new(alloc, part.tree)?;
     truth(alloc, negated, Typed::IsIn { part, list })
@@ -47,7 +49,7 @@ pub(crate) fn in_list(
 
 /// `left op right`
 fn pair(alloc: Global, left: Typed, op: BinOp, right: Typed) -> Result<Typed, CheckFault>
-    ensures { Gives same (Ok (spec.pair left op right)) result }
+    ensures { Gives (Ok (spec.pair left op right)) result }
 {
     let mut rest = TypedLinks::new(alloc);
     rest.push(TypedLink { op, part: right })?;
@@ -57,7 +59,7 @@ fn pair(alloc: Global, left: Typed, op: BinOp, right: Typed) -> Result<Typed, Ch
 
 /// `(part >= low) && (part <= high)`
 fn between_tree(alloc: Global, part: Typed, low: Typed, high: Typed) -> Result<Typed, CheckFault>
-    ensures { Gives same (Ok (spec.between_tree part low high)) result }
+    ensures { Gives (Ok (spec.between_tree part low high)) result }
 {
     let copy = copy_typed(alloc, &part)?;
     let below = pair(alloc, part, BinOp::Ge, low)?;
@@ -67,7 +69,7 @@ fn between_tree(alloc: Global, part: Typed, low: Typed, high: Typed) -> Result<T
 
 /// The kind of the first of three parts that has one.
 fn kind_of_three(part: &Checked, low: &Checked, high: &Checked) -> Typing
-    ensures { typing_of result ≡ spec.first_kind (plain part.now ∷ plain low.now ∷ plain high.now ∷ []) }
+    ensures { result ≡ spec.first_kind (part.now ∷ low.now ∷ high.now ∷ []) }
 {
     let last = kind_before(high.untyped, high.typing, Typing::OnlyNull);
     let later = kind_before(low.untyped, low.typing, last);
@@ -83,14 +85,14 @@ pub(crate) fn between(
     low: Checked,
     high: Checked,
 ) -> Result<Checked, CheckFault>
-    ensures { Gives plain (spec.between negated (plain part) (plain low) (plain high)) result }
+    ensures { Gives (spec.between negated part low high) result }
 {
     let typing = kind_of_three(&part, &low, &high);
     let part = meet_type(alloc, typing, part)?;
     let low = meet_type(alloc, typing, low)?;
     let high = meet_type(alloc, typing, high)?;
     let one = meet(meet(part.typing, low.typing), high.typing);
-    ruled(alloc, truth_of(among(Group::Ordered, one)))?;
+    require_type(alloc, truth_of(among(Group::Ordered, one)))?;
     let tree = between_tree(alloc, part.tree, low.tree, high.tree)?;
     truth(alloc, negated, tree)
 }
@@ -98,7 +100,7 @@ pub(crate) fn between(
 /// `part IS NULL`
 #[inline(never)]
 pub(crate) fn null_test(alloc: Global, negated: bool, part: Checked) -> Result<Checked, CheckFault>
-    ensures { Gives plain (Ok (spec.null_test negated (plain part))) result }
+    ensures { Gives (Ok (spec.null_test negated part)) result }
 {
     let part = Boxed::new(alloc, part.tree)?;
     truth(alloc, negated, Typed::IsNull { part })

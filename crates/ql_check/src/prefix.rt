@@ -1,16 +1,17 @@
+//! Operators before a part.
 #![tactic(auto, using(crate::proofs::Prefixes::under_none, crate::proofs::Prefixes::under_some, crate::proofs::Prefixes::last_prefix, crate::proofs::Prefixes::minus_last, crate::proofs::Prefixes::front_last))]
 
 ghost use Rattle.std.specs.Prelude.{◌≡◌, [], ◌∷◌, ◌++◌, Ok, Some, true, false, MatchOption};
 ghost use Rattle.ql_syntax.specs.Typing as types;
 ghost use Rattle.ql_rel.specs.Operands as spec;
 ghost use Rattle.ql_check.specs.Gives.{Gives};
-ghost use Rattle.ql_check.specs.Plain.{plain, plain_literal, typing_of};
 
 use crate::CheckFault;
-use crate::checked::{Checked, Literal, literal_of, ruled};
-use crate::table::{Typing, prefix_type};
+use crate::checked::{literal_of, require_type};
+use crate::table::prefix_type;
 use ql_edge::Boxed;
-use ql_syntax::Typed;
+use ql_rel::{Checked, Literal};
+use ql_syntax::{Typed, Typing};
 use ql_value::{UnOp, UnOps};
 use std::alloc::Global;
 
@@ -27,7 +28,7 @@ fn last(ops: &[UnOp]) -> Option<(UnOp, &[UnOp])>
 
 /// What operators before a part take and give. The last one comes first.
 fn prefixed_type(ops: &[UnOp], typing: Typing) -> Typing
-    ensures { typing_of result ≡ types.prefixed_type ops.now (typing_of typing) }
+    ensures { result ≡ types.prefixed_type ops.now typing }
 {
     let mut typing = typing;
     let mut left = ops;
@@ -40,7 +41,8 @@ fn prefixed_type(ops: &[UnOp], typing: Typing) -> Typing
 
 /// The operators before a last minus.
 fn before_minus(ops: &[UnOp]) -> Option<&[UnOp]>
-    ensures { MatchOption result (spec.ends_with_minus ops.now ≡ false) (λ front. (spec.ends_with_minus ops.now ≡ true) × (spec.but_last ops.now ≡ front.now)) }
+    ensures { MatchOption result (spec.ends_with_minus ops.now ≡ false)
+        (λ front. (spec.ends_with_minus ops.now ≡ true) × (spec.but_last ops.now ≡ front.now)) }
 {
     match last(ops) {
         Some((UnOp::Minus, front)) => Some(front),
@@ -50,35 +52,38 @@ fn before_minus(ops: &[UnOp]) -> Option<&[UnOp]>
 
 /// Operators before a part whose literal has its minus.
 fn under(alloc: Global, ops: &[UnOp], checked: Checked) -> Result<Checked, CheckFault>
-    ensures { Gives plain (spec.under ops.now (plain checked)) result }
+    ensures { Gives (spec.under ops.now checked) result }
 {
     if ops.len() > 0 {
-        signed(alloc, ops, checked)
+        ops_by_table(alloc, ops, checked)
     } else {
         Ok(checked)
     }
 }
 
 /// At least one operator before a part.
-fn signed(alloc: Global, ops: &[UnOp], checked: Checked) -> Result<Checked, CheckFault>
-    ensures { Gives plain (spec.signed ops.now (plain checked)) result }
+fn ops_by_table(alloc: Global, ops: &[UnOp], checked: Checked) -> Result<Checked, CheckFault>
+    ensures { Gives (spec.ops_by_table ops.now checked) result }
 {
-    let typing = ruled(alloc, prefixed_type(ops, checked.typing))?;
-    let mut copy = UnOps::new(alloc);
-    copy.extend(ops)?;
+    let typing = require_type(alloc, prefixed_type(ops, checked.typing))?;
+    let ops = UnOps::from_slice(alloc, ops)?;
     let part = Boxed::new(alloc, checked.tree)?;
     Ok(Checked {
         literal: None,
         untyped: checked.untyped,
         typing,
-        tree: Typed::Unary { ops: copy, part },
+        tree: Typed::Unary { ops, part },
     })
 }
 
 /// Operators before a part. A minus directly before a literal belongs to it.
 #[inline(never)]
-pub(crate) fn prefixed(alloc: Global, ops: &[UnOp], checked: Checked) -> Result<Checked, CheckFault>
-    ensures { Gives plain (spec.prefixed ops.now (plain checked)) result }
+pub(crate) fn apply_ops(
+    alloc: Global,
+    ops: &[UnOp],
+    checked: Checked,
+) -> Result<Checked, CheckFault>
+    ensures { Gives (spec.apply_ops ops.now checked) result }
 {
     match checked.literal {
         Some(literal) => before_literal(alloc, ops, literal, checked),
@@ -93,7 +98,7 @@ fn before_literal(
     literal: Literal,
     checked: Checked,
 ) -> Result<Checked, CheckFault>
-    ensures { Gives plain (spec.prefixed_by ops.now (Some (plain_literal literal)) (plain checked)) result }
+    ensures { Gives (spec.apply_ops_by ops.now (Some literal) checked) result }
 {
     if literal.minus {
         return under(alloc, ops, checked);

@@ -1,44 +1,18 @@
-ghost use Rattle.std.specs.Prelude.{◌≡◌, List, [], ◌∷◌, ◌++◌, Some, None, map, IfOk};
+//! What names mean.
+
+ghost use Rattle.std.specs.Prelude.{◌≡◌, List, [], ◌∷◌, ◌++◌, Some, None, IfOk};
 ghost use Rattle.ql_rel.specs.Scopes as spec;
 ghost use Rattle.ql_rel.specs.Types.{at_place};
 ghost use Rattle.ql_check.specs.Gives.{Gives};
-ghost use Rattle.ql_check.specs.Names.{Hits, IsRefusedAt, bytes_of, known_at, plain_found, plain_scope, plain_slot};
-ghost use Rattle.ql_check.specs.Plain.{plain, typing_of};
+ghost use Rattle.ql_check.specs.Names.{Hits, IsRefusedAt, bytes_of, place_of};
 
 use crate::CheckFault;
-use crate::checked::{Checked, known};
-use crate::table::Typing;
-use ql_edge::{Bytes, Items, NoMemory};
+use crate::checked::of_type;
+use ql_edge::{Bytes, NoMemory};
+use ql_rel::{Checked, Found, Scope, Slot};
 use ql_syntax::Typed;
 use ql_value::{AMBIGUOUS, NO_COLUMN, Refusal};
 use std::alloc::Global;
-
-/// A place of a row: the name of its record set, that of its column, which an id has not, and the type of its values.
-#[derive(Drop)]
-pub(crate) struct Slot {
-    pub set: Option<Bytes>,
-    pub column: Option<Bytes>,
-    pub typing: Typing,
-}
-
-/// Places of a row, in order.
-pub(crate) type Slots = Items<Slot>;
-
-/// What an expression sees: the places of the row; the fields of a SELECT, which names are looked for among first; and
-/// the number of places before the fields.
-#[derive(Drop)]
-pub(crate) struct Scope {
-    pub seen: Slots,
-    pub fields: Slots,
-    pub width: u32,
-}
-
-/// A place that a name means.
-#[derive(Clone, Copy, Debug)]
-pub(crate) struct Found {
-    pub at: u32,
-    pub typing: Typing,
-}
 
 /// How many places a name may mean.
 #[derive(Clone, Copy, Debug)]
@@ -59,7 +33,7 @@ pub(crate) fn is_called(own: &Option<Bytes>, name: &[u8]) -> bool
 
 /// Whether the slot is of the record set, if one is named.
 fn is_of_set(set: Option<&[u8]>, slot: &Slot) -> bool
-    ensures { result ≡ spec.is_of_set (bytes_of set.entry) (plain_slot slot.now) }
+    ensures { result ≡ spec.is_of_set (bytes_of set.entry) slot.now }
 {
     match set {
         Some(set) => is_called(&slot.set, set),
@@ -69,7 +43,7 @@ fn is_of_set(set: Option<&[u8]>, slot: &Slot) -> bool
 
 /// Whether the slot is the column, or the id where none is named.
 fn is_of_column(column: Option<&[u8]>, slot: &Slot) -> bool
-    ensures { result ≡ spec.is_of_column (bytes_of column.entry) (plain_slot slot.now) }
+    ensures { result ≡ spec.is_of_column (bytes_of column.entry) slot.now }
 {
     match column {
         Some(column) => is_called(&slot.column, column),
@@ -78,8 +52,8 @@ fn is_of_column(column: Option<&[u8]>, slot: &Slot) -> bool
 }
 
 /// A further place behind those that were found.
-fn further(hit: Hit, found: Found) -> Hit
-    ensures { (list : List spec.Found) → Hits hit list → Hits result (list ++ plain_found found ∷ []) }
+fn add_hit(hit: Hit, found: Found) -> Hit
+    ensures { (list : List Found) → Hits hit list → Hits result (list ++ found ∷ []) }
 {
     match hit {
         Hit::Nothing => Hit::One(found),
@@ -88,11 +62,13 @@ fn further(hit: Hit, found: Found) -> Hit
 }
 
 /// One slot more.
-fn looked_at(hit: Hit, set: Option<&[u8]>, column: Option<&[u8]>, at: u32, slot: &Slot) -> Hit
-    ensures { (list : List spec.Found) → Hits hit list → Hits result (list ++ spec.found (bytes_of set.entry) (bytes_of column.entry) at (plain_slot slot.now ∷ [])) }
+fn look_at(hit: Hit, set: Option<&[u8]>, column: Option<&[u8]>, at: u32, slot: &Slot) -> Hit
+    ensures { let more =
+        spec.found (bytes_of set.entry) (bytes_of column.entry) at (slot.now ∷ []) in
+        (list : List Found) → Hits hit list → Hits result (list ++ more) }
 {
     if is_of_set(set, slot) && is_of_column(column, slot) {
-        further(
+        add_hit(
             hit,
             Found {
                 at,
@@ -111,12 +87,13 @@ fn search(
     start: u32,
     slots: &[Slot],
 ) -> Result<Hit, NoMemory>
-    ensures { IfOk result (λ hit. Hits hit (spec.found (bytes_of set.entry) (bytes_of column.entry) start (map plain_slot slots.now))) }
+    ensures { let list = spec.found (bytes_of set.entry) (bytes_of column.entry) start slots.now in
+        IfOk result (λ hit. Hits hit list) }
 {
     let mut hit = Hit::Nothing;
     let mut at = start;
     'slots: for slot in slots {
-        hit = looked_at(hit, set, column, at, slot);
+        hit = look_at(hit, set, column, at, slot);
         at = match at.checked_add(1) {
             Some(next) => next,
             None => return Err(NoMemory),
@@ -129,16 +106,15 @@ fn search(
 pub(crate) fn refused_at(alloc: Global, number: u8, name: &[u8]) -> CheckFault
     ensures { IsRefusedAt number name.now result }
 {
-    let mut copy = Bytes::new(alloc);
-    match copy.extend(name) {
-        Ok(()) => CheckFault::Refused(Refusal { number, name: copy }),
+    match Bytes::from_slice(alloc, name) {
+        Ok(name) => CheckFault::Refused(Refusal { number, name }),
         Err(_) => CheckFault::NoMemory,
     }
 }
 
 /// The one place that a name means.
 fn one_of(alloc: Global, name: &[u8], hit: Hit) -> Result<Found, CheckFault>
-    ensures { (list : List spec.Found) → Hits hit list → Gives plain_found (spec.the_one name.now list) result }
+    ensures { (list : List Found) → Hits hit list → Gives (spec.the_one name.now list) result }
 {
     match hit {
         Hit::Nothing => Err(refused_at(alloc, NO_COLUMN, name)),
@@ -148,14 +124,16 @@ fn one_of(alloc: Global, name: &[u8], hit: Hit) -> Result<Found, CheckFault>
 }
 
 /// The place of a column that is so written.
-fn named(
+fn find_column(
     alloc: Global,
     scope: &Scope,
     set: Option<&[u8]>,
     column: &[u8],
     name: &[u8],
 ) -> Result<Found, CheckFault>
-    ensures { Gives plain_found (spec.the_one name.now (spec.first_some (spec.found None (Some name.now) scope.now.width (map plain_slot scope.now.fields)) (spec.found (bytes_of set.entry) (Some column.now) 0 (map plain_slot scope.now.seen)))) result }
+    ensures { let fields = spec.found None (Some name.now) scope.now.width scope.now.fields in
+        let columns = spec.found (bytes_of set.entry) (Some column.now) 0 scope.now.seen in
+        Gives (spec.the_one name.now (spec.first_some fields columns)) result }
 {
     match search(None, Some(name), scope.width, scope.fields.as_slice())? {
         Hit::Nothing => {
@@ -167,7 +145,7 @@ fn named(
 }
 
 /// The name `T.c`.
-pub(crate) fn qualified(alloc: Global, set: &[u8], column: &[u8]) -> Result<Bytes, NoMemory>
+pub(crate) fn qualified_name(alloc: Global, set: &[u8], column: &[u8]) -> Result<Bytes, NoMemory>
     ensures { IfOk result (λ name. name ≡ spec.written (Some set.now) column.now) }
 {
     let mut name = Bytes::new(alloc);
@@ -184,22 +162,22 @@ fn column_place(
     set: Option<&[u8]>,
     column: &[u8],
 ) -> Result<Found, CheckFault>
-    ensures { Gives plain_found (spec.column_place (plain_scope scope.now) (bytes_of set.entry) column.now) result }
+    ensures { Gives (spec.column_place scope.now (bytes_of set.entry) column.now) result }
 {
     match set {
         Some(own) => {
-            let name = qualified(alloc, own, column)?;
-            named(alloc, scope, set, column, name.as_slice())
+            let name = qualified_name(alloc, own, column)?;
+            find_column(alloc, scope, set, column, name.as_slice())
         }
-        None => named(alloc, scope, None, column, column),
+        None => find_column(alloc, scope, None, column, column),
     }
 }
 
 /// A part with its type, at a place of the row.
-fn placed(found: Found) -> Checked
-    ensures { plain result ≡ known_at (plain_found found) }
+fn as_place(found: Found) -> Checked
+    ensures { result ≡ place_of found }
 {
-    known(found.typing, Typed::Place { at: found.at })
+    of_type(found.typing, Typed::Place { at: found.at })
 }
 
 /// A column as an expression.
@@ -210,25 +188,26 @@ pub(crate) fn column_of(
     set: Option<&[u8]>,
     column: &[u8],
 ) -> Result<Checked, CheckFault>
-    ensures { Gives plain (at_place (spec.column_place (plain_scope scope.now) (bytes_of set.entry) column.now)) result }
+    ensures { Gives (at_place (spec.column_place scope.now (bytes_of set.entry) column.now))
+        result }
 {
-    Ok(placed(column_place(alloc, scope, set, column)?))
+    Ok(as_place(column_place(alloc, scope, set, column)?))
 }
 
 /// The id of the only record set.
 #[inline(never)]
 pub(crate) fn id_of_all(alloc: Global, scope: &Scope) -> Result<Checked, CheckFault>
-    ensures { Gives plain (at_place (spec.id_place (plain_scope scope.now))) result }
+    ensures { Gives (at_place (spec.id_place scope.now)) result }
 {
     let hit = search(None, None, 0, scope.seen.as_slice())?;
-    Ok(placed(one_of(alloc, b"id", hit)?))
+    Ok(as_place(one_of(alloc, b"id", hit)?))
 }
 
 /// The id of the record set with a name.
 #[inline(never)]
 pub(crate) fn id_of_set(alloc: Global, scope: &Scope, set: &[u8]) -> Result<Checked, CheckFault>
-    ensures { Gives plain (at_place (spec.id_place_of (plain_scope scope.now) set.now)) result }
+    ensures { Gives (at_place (spec.id_place_of scope.now set.now)) result }
 {
     let hit = search(Some(set), None, 0, scope.seen.as_slice())?;
-    Ok(placed(one_of(alloc, set, hit)?))
+    Ok(as_place(one_of(alloc, set, hit)?))
 }

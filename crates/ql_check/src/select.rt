@@ -1,50 +1,27 @@
-ghost use Rattle.std.specs.Prelude.{◌≡◌, if◌then◌else◌, [], Ok, map, IfOk};
+//! The plan of a SELECT.
+
+ghost use Rattle.std.specs.Prelude.{◌≡◌, if◌then◌else◌, [], Ok, IfOk};
 ghost use Rattle.ql_rel.specs.Plans as spec;
-ghost use Rattle.ql_check.specs.Gives.{Gives, same};
-ghost use Rattle.ql_check.specs.Names.{plain_scope, plain_slot};
-ghost use Rattle.ql_check.specs.Outputs.{AreColumns, plain_limits, plain_output, plain_shown, plain_source};
-ghost use Rattle.ql_check.specs.Plain.{test_of};
+ghost use Rattle.ql_check.specs.Gives.{Gives};
+ghost use Rattle.ql_check.specs.Outputs.{AreColumns};
+ghost use Rattle.ql_check.specs.Groups.{test_of};
 
 use crate::CheckFault;
-use crate::checked::ruled;
+use crate::checked::require_type;
 use crate::expression::check_expr;
 use crate::fault::refused;
 use crate::from::add_sets;
-use crate::scope::{Scope, Slots};
-use crate::shown::{Shown, ShownList, any_aggregate, field_slots, fields_of};
+use crate::shown::{any_aggregate, field_slots, fields_of};
 use crate::table::{Group, among};
 use ql_edge::{Boxed, Names0, NoMemory, Numbers};
-use ql_rel::{Plan, Schema};
+use ql_rel::{Limits, Output, Plan, Schema, Scope, Shown, ShownList, Slots, Source};
 use ql_syntax::{Expr, Exprs, Join, OptTypeds, Select, Typed, TypedRows, Typeds};
 use ql_value::LATER;
 use std::alloc::Global;
 
-/// What stands before the fields of a SELECT.
-#[derive(Drop)]
-struct Source {
-    scope: Scope,
-    filter: Option<Typed>,
-    groups: Typeds,
-}
-
-/// What a SELECT shows, and by what it is ordered.
-#[derive(Drop)]
-struct Output {
-    fields: ShownList,
-    grouped: bool,
-    keys: Typeds,
-}
-
-/// LIMIT and OFFSET.
-#[derive(Drop)]
-struct Limits {
-    limit: Option<Typed>,
-    offset: Option<Typed>,
-}
-
 /// A row, and no field.
 fn row_scope(alloc: Global, slots: Slots) -> Result<Scope, NoMemory>
-    ensures { IfOk result (λ scope. plain_scope scope ≡ spec.row_scope (map plain_slot slots)) }
+    ensures { IfOk result (λ scope. scope ≡ spec.row_scope slots) }
 {
     match u32::try_from(slots.len()) {
         Ok(width) => Ok(Scope {
@@ -58,7 +35,7 @@ fn row_scope(alloc: Global, slots: Slots) -> Result<Scope, NoMemory>
 
 /// The places that ORDER BY sees of a row.
 fn seen_of(alloc: Global, hides: bool, slots: Slots) -> Slots
-    ensures { map plain_slot result ≡ (if hides then [] else map plain_slot slots) }
+    ensures { result ≡ (if hides then [] else slots) }
 {
     if hides {
         return Slots::new(alloc);
@@ -73,7 +50,7 @@ fn key_scope(
     scope: Scope,
     fields: &ShownList,
 ) -> Result<Scope, NoMemory>
-    ensures { IfOk result (λ keys. plain_scope keys ≡ spec.key_scope hides (plain_scope scope) (map plain_shown fields.now)) }
+    ensures { IfOk result (λ keys. keys ≡ spec.key_scope hides scope fields.now) }
 {
     let fields = field_slots(alloc, fields.as_slice())?;
     let Scope { seen, width, .. } = scope;
@@ -86,51 +63,56 @@ fn key_scope(
 }
 
 /// An expression without aggregate, whose kind is of a group.
-fn tested(alloc: Global, group: Group, scope: &Scope, expr: &Expr) -> Result<Typed, CheckFault>
-    ensures { Gives same (spec.tested (test_of group) (plain_scope scope.now) expr.now) result }
+fn resolve_among(
+    alloc: Global,
+    group: Group,
+    scope: &Scope,
+    expr: &Expr,
+) -> Result<Typed, CheckFault>
+    ensures { Gives (spec.resolve_among (test_of group) scope.now expr.now) result }
 {
     let checked = check_expr(alloc, expr, scope, false)?;
-    ruled(alloc, among(group, checked.typing))?;
+    require_type(alloc, among(group, checked.typing))?;
     Ok(checked.tree)
 }
 
 /// The same, where it stands.
-fn tested_if(
+fn resolve_if(
     alloc: Global,
     group: Group,
     scope: &Scope,
     expr: &Option<Boxed<Expr>>,
 ) -> Result<Option<Typed>, CheckFault>
-    ensures { Gives same (spec.tested_if (test_of group) (plain_scope scope.now) expr.now) result }
+    ensures { Gives (spec.resolve_if (test_of group) scope.now expr.now) result }
 {
     match expr {
-        Some(expr) => Ok(Some(tested(alloc, group, scope, expr.get())?)),
+        Some(expr) => Ok(Some(resolve_among(alloc, group, scope, expr.get())?)),
         None => Ok(None),
     }
 }
 
 /// An expression without aggregate, of any type.
-fn resolved_one(alloc: Global, scope: &Scope, expr: &Expr) -> Result<Typed, CheckFault>
-    ensures { Gives same (spec.resolved_one (plain_scope scope.now) expr.now) result }
+fn resolve(alloc: Global, scope: &Scope, expr: &Expr) -> Result<Typed, CheckFault>
+    ensures { Gives (spec.resolve scope.now expr.now) result }
 {
     let checked = check_expr(alloc, expr, scope, false)?;
     Ok(checked.tree)
 }
 
 /// Expressions without aggregate, of any types.
-fn resolved(alloc: Global, scope: &Scope, exprs: &Exprs) -> Result<Typeds, CheckFault>
-    ensures { Gives same (spec.resolved (plain_scope scope.now) exprs.now) result }
+fn resolve_each(alloc: Global, scope: &Scope, exprs: &Exprs) -> Result<Typeds, CheckFault>
+    ensures { Gives (spec.resolve_each scope.now exprs.now) result }
 {
     let mut trees = Typeds::new(alloc);
     'exprs: for expr in exprs.as_slice() {
-        trees.push(resolved_one(alloc, scope, expr)?)?;
+        trees.push(resolve(alloc, scope, expr)?)?;
     }
     Ok(trees)
 }
 
 /// A join is not built yet.
 fn without_join(alloc: Global, join: &Option<Boxed<Join>>) -> Result<(), CheckFault>
-    ensures { Gives same (spec.without_join join.now) result }
+    ensures { Gives (spec.without_join join.now) result }
 {
     match join {
         Some(_) => Err(refused(alloc, LATER)),
@@ -140,15 +122,15 @@ fn without_join(alloc: Global, join: &Option<Boxed<Join>>) -> Result<(), CheckFa
 
 /// FROM, join, WHERE and GROUP BY.
 fn source_of(alloc: Global, schema: &Schema, select: &Select) -> Result<Source, CheckFault>
-    ensures { Gives plain_source (spec.source_of schema.now select.now) result }
+    ensures { Gives (spec.source_of schema.now select.now) result }
 {
     let slots = add_sets(alloc, schema, &select.sets)?;
     without_join(alloc, &select.join)?;
-    let scope = row_scope(alloc, slots)?;
-    let filter = tested_if(alloc, Group::Truths, &scope, &select.filter)?;
-    let groups = resolved(alloc, &scope, &select.groups)?;
+    let row = row_scope(alloc, slots)?;
+    let filter = resolve_if(alloc, Group::Truths, &row, &select.filter)?;
+    let groups = resolve_each(alloc, &row, &select.groups)?;
     Ok(Source {
-        scope,
+        row,
         filter,
         groups,
     })
@@ -161,12 +143,12 @@ fn output_of(
     grouped: bool,
     select: &Select,
 ) -> Result<Output, CheckFault>
-    ensures { Gives plain_output (spec.output_of (plain_scope scope) grouped select.now) result }
+    ensures { Gives (spec.output_of scope grouped select.now) result }
 {
     let fields = fields_of(alloc, &scope, &select.fields)?;
     let grouped = grouped || any_aggregate(fields.as_slice());
     let scope = key_scope(alloc, select.distinct || grouped, scope, &fields)?;
-    let keys = resolved(alloc, &scope, &select.keys)?;
+    let keys = resolve_each(alloc, &scope, &select.keys)?;
     Ok(Output {
         fields,
         grouped,
@@ -176,11 +158,11 @@ fn output_of(
 
 /// LIMIT, then OFFSET.
 fn limits_of(alloc: Global, select: &Select) -> Result<Limits, CheckFault>
-    ensures { Gives plain_limits (spec.limits_of select.now) result }
+    ensures { Gives (spec.limits_of select.now) result }
 {
     let scope = row_scope(alloc, Slots::new(alloc))?;
-    let limit = tested_if(alloc, Group::Integers, &scope, &select.limit)?;
-    let offset = tested_if(alloc, Group::Integers, &scope, &select.offset)?;
+    let limit = resolve_if(alloc, Group::Integers, &scope, &select.limit)?;
+    let offset = resolve_if(alloc, Group::Integers, &scope, &select.offset)?;
     Ok(Limits { limit, offset })
 }
 
@@ -192,7 +174,7 @@ struct Columns {
 }
 
 fn columns_of(alloc: Global, shown: ShownList) -> Result<Columns, NoMemory>
-    ensures { IfOk result (λ columns. AreColumns columns (map plain_shown shown)) }
+    ensures { IfOk result (λ columns. AreColumns columns shown) }
 {
     let mut fields = Typeds::new(alloc);
     let mut names = Names0::new(alloc);
@@ -212,7 +194,7 @@ fn plan_of(
     output: Output,
     limits: Limits,
 ) -> Result<Plan, CheckFault>
-    ensures { Gives same (Ok (spec.plan_of filter groups (plain_output output) (plain_limits limits))) result }
+    ensures { Gives (Ok (spec.plan_of filter groups output limits)) result }
 {
     let Output {
         fields,
@@ -250,14 +232,14 @@ pub(crate) fn select_plan(
     schema: &Schema,
     select: &Select,
 ) -> Result<Plan, CheckFault>
-    ensures { Gives same (spec.select_plan schema.now select.now) result }
+    ensures { Gives (spec.select_plan schema.now select.now) result }
 {
     let Source {
-        scope,
+        row,
         filter,
         groups,
     } = source_of(alloc, schema, select)?;
-    let output = output_of(alloc, scope, has_groups(&groups), select)?;
+    let output = output_of(alloc, row, has_groups(&groups), select)?;
     let limits = limits_of(alloc, select)?;
     plan_of(alloc, filter, groups, output, limits)
 }

@@ -1,33 +1,22 @@
-ghost use Rattle.std.specs.Prelude.{◌≡◌, ◌++◌, None, map, IfOk};
+//! What a SELECT shows.
+
+ghost use Rattle.std.specs.Prelude.{◌≡◌, ◌++◌, None, IfOk};
 ghost use Rattle.ql_syntax.specs.declared.syntax.Field.{out-Field};
 ghost use Rattle.ql_rel.specs.Plans as spec;
 ghost use Rattle.ql_rel.specs.Types.{plain_name};
 ghost use Rattle.ql_check.specs.Gives.{Gives};
-ghost use Rattle.ql_check.specs.Names.{plain_scope, plain_slot};
-ghost use Rattle.ql_check.specs.Outputs.{name_or_none, plain_shown};
+ghost use Rattle.ql_check.specs.Outputs.{name_or_none};
 
 use crate::CheckFault;
 use crate::aggregate::has_aggregate;
 use crate::expression::check_expr;
 use crate::fault::refused;
-use crate::from::copy_bytes;
-use crate::scope::{Scope, Slot, Slots, qualified};
-use crate::table::Typing;
-use ql_edge::{Boxed, Bytes, Items, Name, NoMemory};
+use crate::scope::qualified_name;
+use ql_edge::{Boxed, Bytes, Name, NoMemory};
+use ql_rel::{Scope, Shown, ShownList, Slot, Slots};
 use ql_syntax::{Expr, Field, Fields, Typed};
 use ql_value::COUNT;
 use std::alloc::Global;
-
-/// What a SELECT shows in one column. The name is empty where there is none.
-#[derive(Drop)]
-pub(crate) struct Shown {
-    pub name: Bytes,
-    pub typing: Typing,
-    pub tree: Typed,
-}
-
-/// What a SELECT shows.
-pub(crate) type ShownList = Items<Shown>;
 
 /// The name of the column that an expression is, with or without its table.
 fn column_name(expr: &Expr) -> Option<&Name>
@@ -56,9 +45,9 @@ fn field_name(alloc: Global, alias: &Option<Boxed<Name>>, expr: &Expr) -> Result
     ensures { IfOk result (λ name. name ≡ spec.field_name alias.now (plain_name expr.now)) }
 {
     match alias {
-        Some(alias) => copy_bytes(alloc, alias.get().as_slice()),
+        Some(alias) => Bytes::from_slice(alloc, alias.get().as_slice()),
         None => match column_name(expr) {
-            Some(name) => copy_bytes(alloc, name.as_slice()),
+            Some(name) => Bytes::from_slice(alloc, name.as_slice()),
             None => Ok(Bytes::new(alloc)),
         },
     }
@@ -66,7 +55,8 @@ fn field_name(alloc: Global, alias: &Option<Boxed<Name>>, expr: &Expr) -> Result
 
 /// A field.
 fn shown_field(alloc: Global, scope: &Scope, field: &Field) -> Result<Shown, CheckFault>
-    ensures { Gives plain_shown (spec.shown_field (plain_scope scope.now) (out-Field field.now).alias (out-Field field.now).expr) result }
+    ensures { let layer = out-Field field.now in
+        Gives (spec.shown_field scope.now layer.alias layer.expr) result }
 {
     let checked = check_expr(alloc, &field.expr, scope, true)?;
     let name = field_name(alloc, &field.alias, &field.expr)?;
@@ -79,7 +69,7 @@ fn shown_field(alloc: Global, scope: &Scope, field: &Field) -> Result<Shown, Che
 
 /// Fields that are written.
 fn shown_fields(alloc: Global, scope: &Scope, fields: &Fields) -> Result<ShownList, CheckFault>
-    ensures { Gives (map plain_shown) (spec.shown_fields (plain_scope scope.now) fields.now) result }
+    ensures { Gives (spec.shown_fields scope.now fields.now) result }
 {
     let mut shown = ShownList::new(alloc);
     'fields: for field in fields.as_slice() {
@@ -100,7 +90,7 @@ fn is_named_set(slot: &Slot) -> bool
 
 /// Whether two record sets or more have a name.
 fn are_several(slots: &[Slot]) -> bool
-    ensures { result ≡ spec.are_several (map plain_slot slots.now) }
+    ensures { result ≡ spec.are_several slots.now }
 {
     let mut one = false;
     'slots: for slot in slots {
@@ -124,8 +114,8 @@ fn star_name(
     ensures { IfOk result (λ name. name ≡ spec.star_name several set.now column.now) }
 {
     match (several, set) {
-        (true, Some(set)) => qualified(alloc, set.as_slice(), column),
-        _ => copy_bytes(alloc, column),
+        (true, Some(set)) => qualified_name(alloc, set.as_slice(), column),
+        _ => Bytes::from_slice(alloc, column),
     }
 }
 
@@ -137,7 +127,8 @@ fn add_star_field(
     slot: &Slot,
     before: ShownList,
 ) -> Result<ShownList, NoMemory>
-    ensures { IfOk result (λ shown. map plain_shown shown ≡ map plain_shown before ++ spec.star_field several at (plain_slot slot.now) slot.now.column) }
+    ensures { let more = spec.star_field several at slot.now slot.now.column in
+        IfOk result (λ shown. shown ≡ before ++ more) }
 {
     let Some(column) = &slot.column else {
         return Ok(before);
@@ -154,7 +145,7 @@ fn add_star_field(
 
 /// The fields of `*`.
 fn star_fields(alloc: Global, several: bool, slots: &[Slot]) -> Result<ShownList, NoMemory>
-    ensures { IfOk result (λ shown. map plain_shown shown ≡ spec.star_fields several 0 (map plain_slot slots.now)) }
+    ensures { IfOk result (λ shown. shown ≡ spec.star_fields several 0 slots.now) }
 {
     let mut shown = ShownList::new(alloc);
     let mut at = 0;
@@ -170,7 +161,7 @@ fn star_fields(alloc: Global, several: bool, slots: &[Slot]) -> Result<ShownList
 
 /// `*`
 fn star(alloc: Global, slots: &[Slot]) -> Result<ShownList, CheckFault>
-    ensures { Gives (map plain_shown) (spec.star (map plain_slot slots.now)) result }
+    ensures { Gives (spec.star slots.now) result }
 {
     if slots.is_empty() {
         return Err(refused(alloc, COUNT));
@@ -184,7 +175,7 @@ pub(crate) fn fields_of(
     scope: &Scope,
     fields: &Fields,
 ) -> Result<ShownList, CheckFault>
-    ensures { Gives (map plain_shown) (spec.shown (plain_scope scope.now) fields.now) result }
+    ensures { Gives (spec.shown scope.now fields.now) result }
 {
     if fields.len() == 0 {
         return star(alloc, scope.seen.as_slice());
@@ -194,7 +185,7 @@ pub(crate) fn fields_of(
 
 /// Whether an aggregate stands in one of the fields.
 pub(crate) fn any_aggregate(fields: &[Shown]) -> bool
-    ensures { result ≡ spec.any_shown (map plain_shown fields.now) }
+    ensures { result ≡ spec.any_shown fields.now }
 {
     'fields: for field in fields {
         if has_aggregate(&field.tree) {
@@ -206,11 +197,11 @@ pub(crate) fn any_aggregate(fields: &[Shown]) -> bool
 
 /// A field as a place behind the row.
 fn field_slot(alloc: Global, field: &Shown) -> Result<Slot, NoMemory>
-    ensures { IfOk result (λ slot. plain_slot slot ≡ spec.field_slot (plain_shown field.now)) }
+    ensures { IfOk result (λ slot. slot ≡ spec.field_slot field.now) }
 {
     let mut column = None;
     if field.name.len() > 0 {
-        column = Some(copy_bytes(alloc, field.name.as_slice())?);
+        column = Some(Bytes::from_slice(alloc, field.name.as_slice())?);
     }
     Ok(Slot {
         set: None,
@@ -221,7 +212,7 @@ fn field_slot(alloc: Global, field: &Shown) -> Result<Slot, NoMemory>
 
 /// The fields as places behind the row.
 pub(crate) fn field_slots(alloc: Global, fields: &[Shown]) -> Result<Slots, NoMemory>
-    ensures { IfOk result (λ slots. map plain_slot slots ≡ spec.field_slots (map plain_shown fields.now)) }
+    ensures { IfOk result (λ slots. slots ≡ spec.field_slots fields.now) }
 {
     let mut slots = Slots::new(alloc);
     'fields: for field in fields {

@@ -1,7 +1,9 @@
+//! The plan of a statement.
+
 ghost use Rattle.std.specs.Prelude.{IfOk};
 ghost use Rattle.ql_rel.specs.PlanTypes.{PlanTyped, row_types};
 ghost use Rattle.ql_rel.specs.Plans.{plan};
-ghost use Rattle.ql_check.specs.Gives.{Gives, same};
+ghost use Rattle.ql_check.specs.Gives.{Gives};
 
 use crate::CheckFault;
 use crate::fault::refused;
@@ -14,7 +16,7 @@ use std::alloc::Global;
 /// The plan of a statement over the tables of a schema, or its first refusal. A SELECT is checked whole; every other
 /// statement is not built yet. The expressions of a plan have types at the rows of its record sets, as `eval` asks.
 pub fn check(alloc: Global, statement: &Statement, schema: &Schema) -> Result<Plan, CheckFault>
-    ensures plan { Gives same (plan schema.now statement.now) result }
+    ensures plan { Gives (plan schema.now statement.now) result }
     ensures typed { IfOk result (PlanTyped (row_types schema.now statement.now)) }
 {
     statement_plan(alloc, statement, schema)
@@ -22,7 +24,7 @@ pub fn check(alloc: Global, statement: &Statement, schema: &Schema) -> Result<Pl
 
 /// The plan of a statement, or its first refusal.
 fn statement_plan(alloc: Global, statement: &Statement, schema: &Schema) -> Result<Plan, CheckFault>
-    ensures { Gives same (plan schema.now statement.now) result }
+    ensures { Gives (plan schema.now statement.now) result }
 {
     match statement {
         Statement::Query(select) => select_plan(alloc, schema, select.get()),

@@ -1,20 +1,12 @@
+//! The table of operators: what they take and give.
+
 ghost use Rattle.std.specs.Prelude.{◌≡◌};
 ghost use Rattle.ql_value.specs.Kinds as kinds;
 ghost use Rattle.ql_syntax.specs.Typing as spec;
-ghost use Rattle.ql_check.specs.Plain.{test_of, typing_of};
+ghost use Rattle.ql_check.specs.Groups.{test_of};
 
+use ql_syntax::Typing;
 use ql_value::{BinOp, Kind, UnOp};
-
-/// What is known of the values of an expression.
-#[derive(Clone, Copy, Debug)]
-pub(crate) enum Typing {
-    /// They are all NULL.
-    OnlyNull,
-    /// They are NULL or of the kind.
-    OfKind(Kind),
-    /// The table of operators has no such form.
-    Ill,
-}
 
 /// A group of kinds.
 #[derive(Clone, Copy, Debug)]
@@ -83,7 +75,7 @@ fn holds(group: Group, kind: Kind) -> bool
 
 /// The type, where its kind is of the group.
 pub(crate) fn among(group: Group, typing: Typing) -> Typing
-    ensures { typing_of result ≡ spec.among (test_of group) (typing_of typing) }
+    ensures { result ≡ spec.among (test_of group) typing }
 {
     match typing {
         Typing::OfKind(kind) => {
@@ -99,7 +91,7 @@ pub(crate) fn among(group: Group, typing: Typing) -> Typing
 
 /// The second type, where there is a first one.
 pub(crate) fn given_type(first: Typing, typing: Typing) -> Typing
-    ensures { typing_of result ≡ spec.given_type (typing_of first) (typing_of typing) }
+    ensures { result ≡ spec.given_type first typing }
 {
     match first {
         Typing::Ill => Typing::Ill,
@@ -109,7 +101,7 @@ pub(crate) fn given_type(first: Typing, typing: Typing) -> Typing
 
 /// The one type of two parts.
 pub(crate) fn meet(left: Typing, right: Typing) -> Typing
-    ensures { typing_of result ≡ spec.meet (typing_of left) (typing_of right) }
+    ensures { result ≡ spec.meet left right }
 {
     match (left, right) {
         (Typing::Ill, _) => Typing::Ill,
@@ -128,14 +120,14 @@ pub(crate) fn meet(left: Typing, right: Typing) -> Typing
 
 /// A truth, where there is a type.
 pub(crate) fn truth_of(typing: Typing) -> Typing
-    ensures { typing_of result ≡ spec.truth_of (typing_of typing) }
+    ensures { result ≡ spec.truth_of typing }
 {
     given_type(typing, Typing::OfKind(Kind::Bool))
 }
 
 /// What an operator between two parts gives.
 pub(crate) fn operator_type(op: BinOp, left: Typing, right: Typing) -> Typing
-    ensures { typing_of result ≡ spec.operator_type op (typing_of left) (typing_of right) }
+    ensures { result ≡ spec.operator_type op left right }
 {
     match op {
         BinOp::Add => among(Group::Sums, meet(left, right)),
@@ -154,7 +146,7 @@ pub(crate) fn operator_type(op: BinOp, left: Typing, right: Typing) -> Typing
 
 /// What an operator before a part takes and gives.
 pub(crate) fn prefix_type(op: UnOp, typing: Typing) -> Typing
-    ensures { typing_of result ≡ spec.prefix_type op (typing_of typing) }
+    ensures { result ≡ spec.prefix_type op typing }
 {
     match op {
         UnOp::Not => among(Group::Truths, typing),

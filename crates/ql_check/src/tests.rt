@@ -1,3 +1,5 @@
+//! Plans and refusals of a few statements.
+
 use super::*;
 use ql_edge::{Boxed, NoMemory};
 use ql_rel::{Indexes, Schema, TableSchemas};

@@ -10,7 +10,7 @@ use Rattle.ql_syntax.specs.declared.syntax.Expr.TheFolds.{fold-roll-Expr, fold-r
 use Rattle.ql_syntax.specs.declared.syntax.Function.{Function}
 use Rattle.ql_syntax.specs.declared.syntax.Link.{Link, roll-Link}
 use Rattle.ql_syntax.specs.declared.syntax.Select.{Select}
-use Rattle.ql_rel.specs.Scopes.{Scope}
+use Rattle.ql_rel.specs.declared.scope.Scope.{Scope}
 use Rattle.ql_rel.specs.Types.{Judged, JudgedLink, expr_step, link_step, judge, judge_link}
 
 pub judge_of_chain : (scope : Scope) (first : Expr) (rest : List Link) → judge scope (e.Chain first rest) ≡ expr_step scope (Expr-F.Chain (judge scope first) (map (judge_link scope) rest))

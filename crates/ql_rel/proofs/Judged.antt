@@ -13,13 +13,15 @@ use Rattle.ql_syntax.specs.declared.syntax.Link.{Link, roll-Link}
 use Rattle.ql_syntax.specs.declared.syntax.Select.{Select}
 use Rattle.ql_syntax.specs.declared.syntax.SetSource.{SetSource}
 use Rattle.ql_syntax.specs.declared.typed.Typed.TheVariants as t
-use Rattle.ql_syntax.specs.Typing.{Typing, only_null, of_kind}
+use Rattle.ql_syntax.specs.declared.typing.Typing.{Typing}
+use Rattle.ql_syntax.specs.declared.typing.Typing.TheVariants.{OnlyNull, OfKind}
+use Rattle.ql_rel.specs.declared.checked.Checked.{Checked}
+use Rattle.ql_rel.specs.declared.scope.Scope.{Scope}
 use Rattle.ql_rel.specs.Answers.{Answer, then_with, refused}
-use Rattle.ql_rel.specs.Checked.{Checked, known, literal_of, bracketed}
-use Rattle.ql_rel.specs.Operands.{front_of, whole, chained, prefixed, in_list, between, null_test}
+use Rattle.ql_rel.specs.Checked.{of_type, literal_of, in_brackets}
+use Rattle.ql_rel.specs.Operands.{front_of, whole, add_steps, apply_ops, in_list, between, null_test}
 use Rattle.ql_rel.specs.Calls.{convert_to, row_call, is_aggregate, allowed_call}
-use Rattle.ql_rel.specs.Scopes.{Scope}
-use Rattle.ql_rel.specs.Types.{Judged, JudgedLink, judged, expr_step, link_step, judge, judge_link, steps, answers, bare_name, id_of_part, id_call, is_id, call, text_of}
+use Rattle.ql_rel.specs.Types.{Judged, JudgedLink, of_answer, expr_step, link_step, judge, judge_link, steps, answers, bare_name, id_of_part, id_call, is_id, call, text_of}
 use Rattle.ql_rel.proofs.TypedBy.{by_constant}
 use Rattle.ql_rel.proofs.Fits.{Fits, then_ok, same_ok, known_fits, literal_fits, brackets_fit}
 use Rattle.ql_rel.proofs.Chains.{chosen, EachStep, front_fits, whole_fits, chained_fits}
@@ -53,8 +55,8 @@ module _ (row : List Typing) (scope : Scope) (stands : Stands row scope) where
 
   chain_is_so : (first : Judged) (ls : List JudgedLink) → IsSo first → LinksAreSo ls → IsSo (expr_step scope (Expr-F.Chain first ls))
   chain_is_so first ls h k a c e =
-      let s = then_ok (first.answer a) (λ x. then_with (chained (front_of x) (steps a ls)) (λ g. Ok (whole g))) c e in
-      let m = then_ok (chained (front_of s.0) (steps a ls)) (λ g. Ok (whole g)) c s.2 in
+      let s = then_ok (first.answer a) (λ x. then_with (add_steps (front_of x) (steps a ls)) (λ g. Ok (whole g))) c e in
+      let m = then_ok (add_steps (front_of s.0) (steps a ls)) (λ g. Ok (whole g)) c s.2 in
       let front = chained_fits a row (front_of s.0) m.0 (steps a ls) (front_fits a row s.0 (h a s.0 s.1)) (each_step a ls k) m.1 in
       subst (Fits a row) (same_ok (whole m.0) c m.2) (whole_fits a row m.0 front)
 
@@ -71,7 +73,7 @@ module _ (row : List Typing) (scope : Scope) (stands : Stands row scope) where
   allowed_fits true function cs c h e = group_fits row function cs c h e
   allowed_fits false function cs c h e = absurd (cc)
 
-  call_is_so : (function : Function) (js : List Judged) → AreSo js → IsSo (judged (λ a. call scope a function js))
+  call_is_so : (function : Function) (js : List Judged) → AreSo js → IsSo (of_answer (λ a. call scope a function js))
   call_is_so function js h a c e =
       elim (chosen (is_id function) (id_call scope a js) (if is_aggregate function then then_with (answers false js) (allowed_call a function) else then_with (answers a js) (row_call function)) c e) [
         | inl x ↦ id_is_so a js c x.1
@@ -108,23 +110,23 @@ module _ (row : List Typing) (scope : Scope) (stands : Stands row scope) where
   by_layer : (z : Expr-F Expr SetSource Field FromSet Join Link Select) → IsSo (expr_step scope (map-Expr Expr SetSource Field FromSet Join Link Select Judged (Unit {0}) (Unit {0}) (Unit {0}) (Unit {0}) JudgedLink (Unit {0}) (judge scope) (λ _. tt) (λ _. tt) (λ _. tt) (λ _. tt) (judge_link scope) (λ _. tt) z)) → IsSo (judge scope (roll-Expr z))
   by_layer z h = subst IsSo (sym (fold-roll-Expr Judged (Unit {0}) (Unit {0}) (Unit {0}) (Unit {0}) JudgedLink (Unit {0}) (expr_step scope) (λ _. tt) (λ _. tt) (λ _. tt) (λ _. tt) link_step (λ _. tt) z)) h
 
-  constant_is_so : (d : Checked) → ((a : Bool) → Fits a row d) → IsSo (judged (λ a. Ok d))
+  constant_is_so : (d : Checked) → ((a : Bool) → Fits a row d) → IsSo (of_answer (λ a. Ok d))
   constant_is_so d f a c e = subst (Fits a row) (same_ok d c e) (f a)
 
   -- one expression, of whose parts what is said is so
   layer : (y : Layer) → IsSo (judge scope (roll-Expr (bare_layer y)))
   layer (Expr-F.Chain first rest) = by_layer (Expr-F.Chain first.0 (map (λ l. l.0) rest)) (chain_is_so (judge scope first.0) (map (judge_link scope) (map (λ l. l.0) rest)) first.1 (links_are_so rest))
   layer (Expr-F.Unary ops part) = by_layer (Expr-F.Unary ops part.0) (λ a c e.
-      let s = then_ok ((judge scope part.0).answer a) (prefixed ops) c e in
+      let s = then_ok ((judge scope part.0).answer a) (apply_ops ops) c e in
       prefixed_fits a row ops s.0 c (part.1 a s.0 s.1) s.2)
   layer (Expr-F.Number n) = by_layer (Expr-F.Number n) (constant_is_so (literal_of (record { minus = false; size = n })) (λ a. literal_fits a row (record { minus = false; size = n })))
-  layer (Expr-F.Text bytes) = by_layer (Expr-F.Text bytes) (constant_is_so (text_of bytes) (λ a. known_fits a row (of_kind k.Text) (t.Constant (v.Text bytes)) tt (by_constant a row (v.Text bytes))))
-  layer (Expr-F.Truth truth) = by_layer (Expr-F.Truth truth) (constant_is_so (known (of_kind k.Bool) (t.Constant (v.Bool truth))) (λ a. known_fits a row (of_kind k.Bool) (t.Constant (v.Bool truth)) tt (by_constant a row (v.Bool truth))))
-  layer Expr-F.Null = by_layer Expr-F.Null (constant_is_so (known only_null (t.Constant v.Null)) (λ a. known_fits a row only_null (t.Constant v.Null) tt (by_constant a row v.Null)))
+  layer (Expr-F.Text bytes) = by_layer (Expr-F.Text bytes) (constant_is_so (text_of bytes) (λ a. known_fits a row (OfKind k.Text) (t.Constant (v.Text bytes)) tt (by_constant a row (v.Text bytes))))
+  layer (Expr-F.Truth truth) = by_layer (Expr-F.Truth truth) (constant_is_so (of_type (OfKind k.Bool) (t.Constant (v.Bool truth))) (λ a. known_fits a row (OfKind k.Bool) (t.Constant (v.Bool truth)) tt (by_constant a row (v.Bool truth))))
+  layer Expr-F.Null = by_layer Expr-F.Null (constant_is_so (of_type OnlyNull (t.Constant v.Null)) (λ a. known_fits a row OnlyNull (t.Constant v.Null) tt (by_constant a row v.Null)))
   layer (Expr-F.Column set column) = by_layer (Expr-F.Column set column) (λ a c e. column_fits a row scope stands set column c e)
   layer (Expr-F.Paren part) = by_layer (Expr-F.Paren part.0) (λ a c e.
-      let s = then_ok ((judge scope part.0).answer a) (λ x. Ok (bracketed x)) c e in
-      subst (Fits a row) (same_ok (bracketed s.0) c s.2) (brackets_fit a row s.0 (part.1 a s.0 s.1)))
+      let s = then_ok ((judge scope part.0).answer a) (λ x. Ok (in_brackets x)) c e in
+      subst (Fits a row) (same_ok (in_brackets s.0) c s.2) (brackets_fit a row s.0 (part.1 a s.0 s.1)))
   layer (Expr-F.Call function star parts) = by_layer (Expr-F.Call function star (map (λ p. p.0) parts)) (call_is_so function (map (judge scope) (map (λ p. p.0) parts)) (parts_are_so parts))
   layer (Expr-F.Convert kind part) = by_layer (Expr-F.Convert kind part.0) (λ a c e.
       let s = then_ok ((judge scope part.0).answer a) (convert_to kind) c e in

@@ -5,7 +5,9 @@ use Rattle.ql_syntax.specs.declared.typed.Typed.TheOpen.{Typed-F, TypedLink-F}
 use Rattle.ql_syntax.specs.declared.typed.Typed.TheFolds.{fold-TypedLink, fold-roll-Typed, fold-roll-TypedLink, ind-Typed}
 use Rattle.ql_syntax.specs.declared.typed.TypedLink.{TypedLink, roll-TypedLink}
 use Rattle.ql_value.specs.Kinds.{is_integer}
-use Rattle.ql_syntax.specs.Typing.{Typing, StepType, of_kind, among, given_type, truth_of, meet_all, chain_type, prefixed_type, converts, call_type, type_of, type_step, link_type}
+use Rattle.ql_syntax.specs.declared.typing.Typing.{Typing}
+use Rattle.ql_syntax.specs.declared.typing.Typing.TheVariants.{OfKind}
+use Rattle.ql_syntax.specs.Typing.{StepType, among, given_type, truth_of, meet_all, chain_type, prefixed_type, converts, call_type, type_of, type_step, link_type}
 use Rattle.ql_rel.specs.Aggregates.{is_any, aggregate_step, aggregate_link, has_aggregate, link_has_aggregate}
 use Rattle.ql_rel.specs.PlanTypes.{group_step, type_by}
 use Rattle.ql_rel.proofs.TypedBy.{types_of, links_of, link_by, by_roll, by_link_roll}
@@ -84,8 +86,8 @@ module _ (types : List Typing) where
       ap (λ t. chain_type t (map (λ l. l may) (map (links_of types) (map (λ l. l.0) links)))) (p.1 may (λ m. left_false (has_aggregate p.0) rest (e m)))
       ∙ ap (chain_type (type_of types p.0)) (links_same may links (λ m. right_false (has_aggregate p.0) rest (e m))))
   layer (Typed-F.Unary ops p) = by_layer (Typed-F.Unary ops p.0) (λ may e. ap (prefixed_type ops) (p.1 may e))
-  layer (Typed-F.Convert kind p) = by_layer (Typed-F.Convert kind p.0) (λ may e. ap (λ t. given_type (among (converts kind) t) (of_kind kind)) (p.1 may e))
-  layer (Typed-F.Narrow kind p) = by_layer (Typed-F.Narrow kind p.0) (λ may e. ap (λ t. given_type (among is_integer t) (among is_integer (of_kind kind))) (p.1 may e))
+  layer (Typed-F.Convert kind p) = by_layer (Typed-F.Convert kind p.0) (λ may e. ap (λ t. given_type (among (converts kind) t) (OfKind kind)) (p.1 may e))
+  layer (Typed-F.Narrow kind p) = by_layer (Typed-F.Narrow kind p.0) (λ may e. ap (λ t. given_type (among is_integer t) (among is_integer (OfKind kind))) (p.1 may e))
   layer (Typed-F.Call function parts) = by_layer (Typed-F.Call function (map (λ p. p.0) parts)) (λ may e. ap (call_type function) (parts_same may parts e))
   layer (Typed-F.Aggregate function kind part) =
       let z = bare (Typed-F.Aggregate function kind part) in

@@ -1,10 +1,15 @@
 -- A name that means a place has the type of the place.
 use Rattle.std.proofs.Common.{◌≡◌, ℕ, suc, Bool, true, false, ◌&&◌, if◌then◌else◌, List, [], ◌∷◌, Option, None, Some, Ok, subst, ◌∙◌}
 use Rattle.ql_syntax.specs.declared.typed.Typed.TheVariants as t
-use Rattle.ql_syntax.specs.Typing.{Typing, IsTyped, place_type}
+use Rattle.ql_syntax.specs.declared.typing.Typing.{Typing}
+use Rattle.ql_syntax.specs.Typing.{IsTyped, place_type}
+use Rattle.ql_rel.specs.declared.checked.Checked.{Checked}
+use Rattle.ql_rel.specs.declared.scope.Slot.{Slot}
+use Rattle.ql_rel.specs.declared.scope.Scope.{Scope}
+use Rattle.ql_rel.specs.declared.scope.Found.{Found}
 use Rattle.ql_rel.specs.Answers.{Answer}
-use Rattle.ql_rel.specs.Checked.{Checked, known}
-use Rattle.ql_rel.specs.Scopes.{Slot, Scope, Found, found, the_one, first_some, written, is_of_set, is_of_column, column_place, id_place, id_place_of}
+use Rattle.ql_rel.specs.Checked.{of_type}
+use Rattle.ql_rel.specs.Scopes.{found, the_one, first_some, written, is_of_set, is_of_column, column_place, id_place, id_place_of}
 use Rattle.ql_rel.specs.Types.{at_place}
 use Rattle.ql_rel.proofs.TypedBy.{by_place}
 use Rattle.ql_rel.proofs.Fits.{Fits, then_ok, same_ok, known_fits}
@@ -12,7 +17,7 @@ use Rattle.ql_rel.proofs.Fits.{Fits, then_ok, same_ok, known_fits}
 -- the slots stand in the row from a place on
 abbrev pub Stand : List Typing → ℕ → List Slot → Type 0
 Stand row at [] = Unit {0}
-Stand row at (s ∷ slots) = (place_type row at ≡ s.type) × IsTyped s.type × Stand row (suc at) slots
+Stand row at (s ∷ slots) = (place_type row at ≡ s.typing) × IsTyped s.typing × Stand row (suc at) slots
 
 -- the slots of a scope stand in the row
 pub record Stands (row : List Typing) (scope : Scope) : Type 0 where
@@ -21,7 +26,7 @@ pub record Stands (row : List Typing) (scope : Scope) : Type 0 where
 
 -- a place of the row has its type
 abbrev IsPlace : List Typing → Found → Type 0
-IsPlace row f = (place_type row f.at ≡ f.type) × IsTyped f.type
+IsPlace row f = (place_type row f.at ≡ f.typing) × IsTyped f.typing
 
 abbrev ArePlaces : List Typing → List Found → Type 0
 ArePlaces row [] = Unit {0}
@@ -34,7 +39,7 @@ one_more row false f fs p ps = ps
 found_places : (row : List Typing) (set column : Option (List ℕ)) (at : ℕ) (slots : List Slot) → Stand row at slots → ArePlaces row (found set column at slots)
 found_places row set column at [] h = tt
 found_places row set column at (s ∷ slots) h =
-    one_more row (is_of_set set s && is_of_column column s) (record { at = at; type = s.type }) (found set column (suc at) slots) (h.0, h.1) (found_places row set column (suc at) slots h.2)
+    one_more row (is_of_set set s && is_of_column column s) (record { at = at; typing = s.typing }) (found set column (suc at) slots) (h.0, h.1) (found_places row set column (suc at) slots h.2)
 
 first_places : (row : List Typing) (fs gs : List Found) → ArePlaces row fs → ArePlaces row gs → ArePlaces row (first_some fs gs)
 first_places row [] gs p q = q
@@ -48,9 +53,9 @@ the_place row name (g ∷ h ∷ fs) f p a = absurd (cc)
 module _ (may : Bool) (row : List Typing) (scope : Scope) (stands : Stands row scope) where
   place_fits : (place : Answer Found) (c : Checked) → ((f : Found) → place ≡ Ok f → IsPlace row f) → at_place place ≡ Ok c → Fits may row c
   place_fits place c h a =
-      let s = then_ok place (λ p. Ok (known p.type (t.Place p.at))) c a in
+      let s = then_ok place (λ p. Ok (of_type p.typing (t.Place p.at))) c a in
       let p = h s.0 s.1 in
-      subst (Fits may row) (same_ok (known s.0.type (t.Place s.0.at)) c s.2) (known_fits may row s.0.type (t.Place s.0.at) p.1 (by_place may row s.0.at ∙ p.0))
+      subst (Fits may row) (same_ok (of_type s.0.typing (t.Place s.0.at)) c s.2) (known_fits may row s.0.typing (t.Place s.0.at) p.1 (by_place may row s.0.at ∙ p.0))
 
   pub column_fits : (set : Option (List ℕ)) (column : List ℕ) (c : Checked) → at_place (column_place scope set column) ≡ Ok c → Fits may row c
   column_fits set column c a =

@@ -19,15 +19,21 @@ use Rattle.ql_syntax.specs.declared.typed.Typed.TheOpen.{Typed-F}
 use Rattle.ql_syntax.specs.declared.typed.Typed.TheFolds.{fold-roll-Typed}
 use Rattle.ql_syntax.specs.declared.typed.Typed.TheVariants as t
 use Rattle.ql_value.specs.Kinds.{is_integer, is_truth}
-use Rattle.ql_syntax.specs.Typing.{Typing, of_kind, ill, among, meet, place_type}
+use Rattle.ql_syntax.specs.declared.typing.Typing.{Typing}
+use Rattle.ql_syntax.specs.declared.typing.Typing.TheVariants.{OfKind, Ill}
+use Rattle.ql_syntax.specs.Typing.{among, meet, place_type}
+use Rattle.ql_rel.specs.declared.scope.Slot.{Slot}
+use Rattle.ql_rel.specs.declared.select.Shown.{Shown}
+use Rattle.ql_rel.specs.declared.select.Source.{Source}
+use Rattle.ql_rel.specs.declared.select.Limits.{Limits}
 use Rattle.ql_rel.specs.declared.plan.Plan.{Plan}
 use Rattle.ql_rel.specs.declared.schema.Schema.{Schema}
 use Rattle.ql_rel.specs.Aggregates.{has_aggregate, aggregate_step, aggregate_link}
 use Rattle.ql_rel.specs.Answers.{Answer, refused, refused_at, then_with}
-use Rattle.ql_rel.specs.Checked.{ruled}
-use Rattle.ql_rel.specs.Scopes.{Slot, column_place}
+use Rattle.ql_rel.specs.Checked.{require_type}
+use Rattle.ql_rel.specs.Scopes.{column_place}
 use Rattle.ql_rel.specs.Types.{Judged, ref_of, plain_name}
-use Rattle.ql_rel.specs.Plans.{Shown, Source, Limits, add_table, add_source, add_set, add_sets, set_slots, without_join, field_name, star, any_shown, key_scope, row_scope, table_named, tested, tested_if, resolved, is_some_list, output_of, limits_of, plan_of, select_plan, plan}
+use Rattle.ql_rel.specs.Plans.{add_table, add_source, add_set, add_sets, set_slots, without_join, field_name, star, any_shown, key_scope, row_scope, table_named, resolve_among, resolve_if, resolve_each, is_some_list, output_of, limits_of, plan_of, select_plan, plan}
 use Rattle.ql_rel.specs.PlanTypes.{aggregate_type, type_by, type_in_group}
 use Rattle.ql_rel.proofs.TypedBy.{by_roll, by_constant, by_place, by_rows, by_aggregate}
 use Rattle.ql_rel.proofs.Equations.{judge_of_column, judge_of_number, judge_of_truth, judge_of_null}
@@ -62,30 +68,30 @@ no_table = refl
 no_star : star [] ≡ refused 6
 no_star = refl
 
-one_star : star t_slots ≡ Ok (record { name = codes "a"; type = of_kind k.Int8; tree = t.Place 1 } ∷ [])
+one_star : star t_slots ≡ Ok (record { name = codes "a"; typing = OfKind k.Int8; tree = t.Place 1 } ∷ [])
 one_star = refl
 
-two_stars : star (t_slots ++ u_slots) ≡ Ok (record { name = codes "t.a"; type = of_kind k.Int8; tree = t.Place 1 } ∷ record { name = codes "u.a"; type = of_kind k.Int64; tree = t.Place 3 } ∷ [])
+two_stars : star (t_slots ++ u_slots) ≡ Ok (record { name = codes "t.a"; typing = OfKind k.Int8; tree = t.Place 1 } ∷ record { name = codes "u.a"; typing = OfKind k.Int64; tree = t.Place 3 } ∷ [])
 two_stars = refl
 
 abbrev field : List ℕ → Shown
-field name = record { name = name; type = of_kind k.Text; tree = t.Place 1 }
+field name = record { name = name; typing = OfKind k.Text; tree = t.Place 1 }
 
 -- ORDER BY: two fields of one name are ambiguous, a field stands before a column, and with DISTINCT or grouping no column is seen
 two_fields : column_place (key_scope false (row_scope t_slots) (field (codes "a") ∷ field (codes "a") ∷ [])) None (codes "a") ≡ refused_at 3 (codes "a")
 two_fields = refl
 
-field_first : column_place (key_scope false (row_scope t_slots) (field (codes "a") ∷ [])) None (codes "a") ≡ Ok (record { at = 2; type = of_kind k.Text })
+field_first : column_place (key_scope false (row_scope t_slots) (field (codes "a") ∷ [])) None (codes "a") ≡ Ok (record { at = 2; typing = OfKind k.Text })
 field_first = refl
 
-row_next : column_place (key_scope false (row_scope t_slots) (field (codes "b") ∷ [])) None (codes "a") ≡ Ok (record { at = 1; type = of_kind k.Int8 })
+row_next : column_place (key_scope false (row_scope t_slots) (field (codes "b") ∷ [])) None (codes "a") ≡ Ok (record { at = 1; typing = OfKind k.Int8 })
 row_next = refl
 
 row_hidden : column_place (key_scope true (row_scope t_slots) (field (codes "b") ∷ [])) None (codes "a") ≡ refused_at 2 (codes "a")
 row_hidden = refl
 
 -- `ORDER BY t.a` means a field that is named `t.a`, and not one that is named `a`
-as_written : column_place (key_scope true (row_scope t_slots) (field (codes "a") ∷ field (codes "t.a") ∷ [])) (Some (codes "t")) (codes "a") ≡ Ok (record { at = 3; type = of_kind k.Text })
+as_written : column_place (key_scope true (row_scope t_slots) (field (codes "a") ∷ field (codes "t.a") ∷ [])) (Some (codes "t")) (codes "a") ≡ Ok (record { at = 3; typing = OfKind k.Text })
 as_written = refl
 
 -- the name of a field: that behind AS, else that of the column which it is, else none; a column in brackets is none
@@ -99,50 +105,50 @@ no_name : field_name None (plain_name (e.Paren (e.Column None (codes "a")))) ≡
 no_name = ap (λ x. field_name None (ref_of x)) (e.outs-Paren (e.Column None (codes "a")))
 
 -- an aggregate in a field makes a group
-one_group : any_shown (record { name = []; type = of_kind k.Int64; tree = t.Aggregate f.Count k.Int64 None } ∷ []) ≡ true
+one_group : any_shown (record { name = []; typing = OfKind k.Int64; tree = t.Aggregate f.Count k.Int64 None } ∷ []) ≡ true
 one_group =
     ap (λ b. b || false)
     (ap has_aggregate (sym (t.rolls-Aggregate f.Count k.Int64 None)) ∙ fold-roll-Typed Bool Bool aggregate_step aggregate_link (Typed-F.Aggregate f.Count k.Int64 None))
 
 -- the types of `t (a int8, s string)`, with its id; and of an aggregate of a place
 abbrev row : List Typing
-row = of_kind k.Int64 ∷ of_kind k.Int8 ∷ of_kind k.Text ∷ []
+row = OfKind k.Int64 ∷ OfKind k.Int8 ∷ OfKind k.Text ∷ []
 
-of_place : (function : Function) (kind : Kind) (at : ℕ) → type_in_group row (t.Aggregate function kind (Some (t.Place at))) ≡ meet (of_kind kind) (aggregate_type function (Some (place_type row at)))
-of_place function kind at = by_aggregate row function kind (t.Place at) ∙ ap (λ type. meet (of_kind kind) (aggregate_type function (Some type))) (by_place false row at)
+of_place : (function : Function) (kind : Kind) (at : ℕ) → type_in_group row (t.Aggregate function kind (Some (t.Place at))) ≡ meet (OfKind kind) (aggregate_type function (Some (place_type row at)))
+of_place function kind at = by_aggregate row function kind (t.Place at) ∙ ap (λ type. meet (OfKind kind) (aggregate_type function (Some type))) (by_place false row at)
 
 -- `sum(a)` is int8 and nothing else, `min(s)` a string, `count(s)` int64; there is no `avg(s)`, and no place 3
-sum_of_int8 : type_in_group row (t.Aggregate f.Sum k.Int8 (Some (t.Place 1))) ≡ of_kind k.Int8
+sum_of_int8 : type_in_group row (t.Aggregate f.Sum k.Int8 (Some (t.Place 1))) ≡ OfKind k.Int8
 sum_of_int8 = of_place f.Sum k.Int8 1
 
-sum_of_another_kind : type_in_group row (t.Aggregate f.Sum k.Int64 (Some (t.Place 1))) ≡ ill
+sum_of_another_kind : type_in_group row (t.Aggregate f.Sum k.Int64 (Some (t.Place 1))) ≡ Ill
 sum_of_another_kind = of_place f.Sum k.Int64 1
 
-least_string : type_in_group row (t.Aggregate f.Min k.Text (Some (t.Place 2))) ≡ of_kind k.Text
+least_string : type_in_group row (t.Aggregate f.Min k.Text (Some (t.Place 2))) ≡ OfKind k.Text
 least_string = of_place f.Min k.Text 2
 
-count_of_strings : type_in_group row (t.Aggregate f.Count k.Int64 (Some (t.Place 2))) ≡ of_kind k.Int64
+count_of_strings : type_in_group row (t.Aggregate f.Count k.Int64 (Some (t.Place 2))) ≡ OfKind k.Int64
 count_of_strings = of_place f.Count k.Int64 2
 
-average_of_strings : type_in_group row (t.Aggregate f.Avg k.Text (Some (t.Place 2))) ≡ ill
+average_of_strings : type_in_group row (t.Aggregate f.Avg k.Text (Some (t.Place 2))) ≡ Ill
 average_of_strings = of_place f.Avg k.Text 2
 
-count_of_no_place : type_in_group row (t.Aggregate f.Count k.Int64 (Some (t.Place 3))) ≡ ill
+count_of_no_place : type_in_group row (t.Aggregate f.Count k.Int64 (Some (t.Place 3))) ≡ Ill
 count_of_no_place = of_place f.Count k.Int64 3
 
 -- `max(NULL)` is int64
-greatest_null : type_in_group row (t.Aggregate f.Max k.Int64 (Some (t.Constant v.Null))) ≡ of_kind k.Int64
-greatest_null = by_aggregate row f.Max k.Int64 (t.Constant v.Null) ∙ ap (λ type. meet (of_kind k.Int64) (aggregate_type f.Max (Some type))) (by_constant false row v.Null)
+greatest_null : type_in_group row (t.Aggregate f.Max k.Int64 (Some (t.Constant v.Null))) ≡ OfKind k.Int64
+greatest_null = by_aggregate row f.Max k.Int64 (t.Constant v.Null) ∙ ap (λ type. meet (OfKind k.Int64) (aggregate_type f.Max (Some type))) (by_constant false row v.Null)
 
 -- `sum(count())` has no type, though `count()` has one
-rows_counted : type_in_group row (t.Aggregate f.Count k.Int64 None) ≡ of_kind k.Int64
+rows_counted : type_in_group row (t.Aggregate f.Count k.Int64 None) ≡ OfKind k.Int64
 rows_counted = by_rows row f.Count k.Int64
 
-one_inside : type_in_group row (t.Aggregate f.Sum k.Int64 (Some (t.Aggregate f.Count k.Int64 None))) ≡ ill
+one_inside : type_in_group row (t.Aggregate f.Sum k.Int64 (Some (t.Aggregate f.Count k.Int64 None))) ≡ Ill
 one_inside =
     by_aggregate row f.Sum k.Int64 (t.Aggregate f.Count k.Int64 None)
-    ∙ ap (λ e. meet (of_kind k.Int64) (aggregate_type f.Sum (Some (type_by false row e)))) (sym (t.rolls-Aggregate f.Count k.Int64 None))
-    ∙ ap (λ type. meet (of_kind k.Int64) (aggregate_type f.Sum (Some type))) (by_roll false row (Typed-F.Aggregate f.Count k.Int64 None))
+    ∙ ap (λ e. meet (OfKind k.Int64) (aggregate_type f.Sum (Some (type_by false row e)))) (sym (t.rolls-Aggregate f.Count k.Int64 None))
+    ∙ ap (λ type. meet (OfKind k.Int64) (aggregate_type f.Sum (Some type))) (by_roll false row (Typed-F.Aggregate f.Count k.Int64 None))
 
 -- `FROM t AS x`, over which `t.a` is no column, and a set that describes the database itself
 an_alias : add_set tables [] (roll-FromSet (record { source = source.Table (codes "t"); alias = Some (codes "x") })) ≡ Ok (set_slots (codes "x") (column (codes "a") k.Int8 ∷ []))
@@ -166,38 +172,38 @@ no_plan = refl
 
 -- what a test makes of what is said of an expression
 abbrev test_of : (Kind → Bool) → Judged → Answer Typed
-test_of test j = then_with (j.answer false) (λ c. then_with (ruled (among test c.type)) (λ _. Ok c.tree))
+test_of test j = then_with (j.answer false) (λ c. then_with (require_type (among test c.typing)) (λ _. Ok c.tree))
 
 -- `WHERE 1` and `LIMIT true` are 5, `WHERE NULL` is fine, and LIMIT sees no column
-number_where : tested is_truth (row_scope t_slots) (e.Number 1) ≡ refused 5
+number_where : resolve_among is_truth (row_scope t_slots) (e.Number 1) ≡ refused 5
 number_where = ap (test_of is_truth) (judge_of_number (row_scope t_slots) 1)
 
-null_where : tested is_truth (row_scope t_slots) e.Null ≡ Ok (t.Constant v.Null)
+null_where : resolve_among is_truth (row_scope t_slots) e.Null ≡ Ok (t.Constant v.Null)
 null_where = ap (test_of is_truth) (judge_of_null (row_scope t_slots))
 
-truth_limit : tested is_integer (row_scope []) (e.Truth true) ≡ refused 5
+truth_limit : resolve_among is_integer (row_scope []) (e.Truth true) ≡ refused 5
 truth_limit = ap (test_of is_integer) (judge_of_truth (row_scope []) true)
 
 -- what LIMIT refuses comes before all of OFFSET, and it sees no column: `LIMIT a`
 module _ (q : Select) where
   abbrev limits_from : Answer (Option Typed) → Answer Limits
-  limits_from limit = then_with limit (λ l. then_with (tested_if is_integer (row_scope []) (out-Select q).offset) (λ o. Ok (record { limit = l; offset = o })))
+  limits_from limit = then_with limit (λ l. then_with (resolve_if is_integer (row_scope []) (out-Select q).offset) (λ o. Ok (record { limit = l; offset = o })))
 
   limit_first : (out-Select q).limit ≡ Some (e.Column None (codes "a")) → limits_of q ≡ refused_at 2 (codes "a")
   limit_first h =
-      ap (λ x. limits_from (tested_if is_integer (row_scope []) x)) h
+      ap (λ x. limits_from (resolve_if is_integer (row_scope []) x)) h
       ∙ ap (λ j. limits_from (then_with (test_of is_integer j) (λ x. Ok (Some x)))) (judge_of_column (row_scope []) None (codes "a"))
 
   -- what WHERE refuses comes before all of the fields: `WHERE a` without FROM
   abbrev source_from : List Slot → Answer (Option Typed) → Answer Source
-  source_from slots filter = then_with filter (λ x. then_with (resolved (row_scope slots) (out-Select q).groups) (λ groups. Ok (record { row = row_scope slots; filter = x; groups = groups })))
+  source_from slots filter = then_with filter (λ x. then_with (resolve_each (row_scope slots) (out-Select q).groups) (λ groups. Ok (record { row = row_scope slots; filter = x; groups = groups })))
 
   abbrev plan_from : Answer Source → Answer Plan
   plan_from from = then_with from (λ m. then_with (output_of m.row (is_some_list m.groups) q) (λ output. then_with (limits_of q) (λ limits. Ok (plan_of m.filter m.groups output limits))))
 
   where_first : (out-Select q).sets ≡ [] → (out-Select q).join ≡ None → (out-Select q).filter ≡ Some (e.Column None (codes "a")) → select_plan tables q ≡ refused_at 2 (codes "a")
   where_first no_sets no_join h =
-      ap (λ x. plan_from (then_with (add_sets tables [] x) (λ slots. then_with (without_join (out-Select q).join) (λ _. source_from slots (tested_if is_truth (row_scope slots) (out-Select q).filter))))) no_sets
-      ∙ ap (λ x. plan_from (then_with (without_join x) (λ _. source_from [] (tested_if is_truth (row_scope []) (out-Select q).filter)))) no_join
-      ∙ ap (λ x. plan_from (source_from [] (tested_if is_truth (row_scope []) x))) h
+      ap (λ x. plan_from (then_with (add_sets tables [] x) (λ slots. then_with (without_join (out-Select q).join) (λ _. source_from slots (resolve_if is_truth (row_scope slots) (out-Select q).filter))))) no_sets
+      ∙ ap (λ x. plan_from (then_with (without_join x) (λ _. source_from [] (resolve_if is_truth (row_scope []) (out-Select q).filter)))) no_join
+      ∙ ap (λ x. plan_from (source_from [] (resolve_if is_truth (row_scope []) x))) h
       ∙ ap (λ j. plan_from (source_from [] (then_with (test_of is_truth j) (λ x. Ok (Some x))))) (judge_of_column (row_scope []) None (codes "a"))

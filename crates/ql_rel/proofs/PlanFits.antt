@@ -1,15 +1,18 @@
 -- The expressions of a plan have types.
 use Rattle.std.proofs.Common.{◌≡◌, ℕ, Bool, true, false, List, [], ◌∷◌, Option, Some, None, IfSome, Ok, sym, subst, ◌∙◌}
 use Rattle.ql_value.specs.declared.value.Kind.{Kind}
-use Rattle.ql_syntax.specs.Typing.{Typing, IsTyped, among, type_of}
+use Rattle.ql_syntax.specs.declared.typing.Typing.{Typing}
+use Rattle.ql_syntax.specs.Typing.{IsTyped, among, type_of}
 use Rattle.ql_syntax.specs.declared.syntax.Expr.{Expr}
 use Rattle.ql_syntax.specs.declared.syntax.Field.{Field, out-Field}
 use Rattle.ql_syntax.specs.declared.typed.Typed.{Typed}
+use Rattle.ql_rel.specs.declared.checked.Checked.{Checked}
+use Rattle.ql_rel.specs.declared.scope.Scope.{Scope}
+use Rattle.ql_rel.specs.declared.select.Shown.{Shown}
 use Rattle.ql_rel.specs.Answers.{then_with}
-use Rattle.ql_rel.specs.Checked.{Checked, ruled}
-use Rattle.ql_rel.specs.Scopes.{Scope}
+use Rattle.ql_rel.specs.Checked.{require_type}
 use Rattle.ql_rel.specs.Types.{checked, plain_name}
-use Rattle.ql_rel.specs.Plans.{Shown, field_name, tested, tested_if, resolved_one, resolved, shown_field, shown_fields}
+use Rattle.ql_rel.specs.Plans.{field_name, resolve_among, resolve_if, resolve, resolve_each, shown_field, shown_fields}
 use Rattle.ql_rel.specs.PlanTypes.{type_in_group, AreTyped}
 use Rattle.ql_rel.proofs.Fits.{then_ok, same_ok, ruled_ok}
 use Rattle.ql_rel.proofs.Places.{Stands}
@@ -19,44 +22,44 @@ use Rattle.ql_rel.proofs.Judged.{is_so}
 -- each field has its type in the group
 abbrev pub FieldsFit : List Typing → List Shown → Type 0
 FieldsFit row [] = Unit {0}
-FieldsFit row (x ∷ fields) = (IsTyped x.type × (type_in_group row x.tree ≡ x.type)) × FieldsFit row fields
+FieldsFit row (x ∷ fields) = (IsTyped x.typing × (type_in_group row x.tree ≡ x.typing)) × FieldsFit row fields
 
 module _ (row : List Typing) (scope : Scope) (stands : Stands row scope) where
   -- an expression without aggregate has its type
-  pub checked_type : (e : Expr) (c : Checked) → checked scope false e ≡ Ok c → IsTyped c.type × (type_of row c.tree ≡ c.type)
+  pub checked_type : (e : Expr) (c : Checked) → checked scope false e ≡ Ok c → IsTyped c.typing × (type_of row c.tree ≡ c.typing)
   checked_type e c a =
       let f = is_so row scope stands e false c a in
       (f.typed, sym (row_type row c.tree) ∙ f.is)
 
-  pub tested_type : (test : Kind → Bool) (e : Expr) (tree : Typed) → tested test scope e ≡ Ok tree → IsTyped (among test (type_of row tree))
+  pub tested_type : (test : Kind → Bool) (e : Expr) (tree : Typed) → resolve_among test scope e ≡ Ok tree → IsTyped (among test (type_of row tree))
   tested_type test e tree a =
-      let s = then_ok (checked scope false e) (λ c. then_with (ruled (among test c.type)) (λ _. Ok c.tree)) tree a in
-      let m = then_ok (ruled (among test s.0.type)) (λ _. Ok s.0.tree) tree s.2 in
-      let r = ruled_ok (among test s.0.type) m.0 m.1 in
+      let s = then_ok (checked scope false e) (λ c. then_with (require_type (among test c.typing)) (λ _. Ok c.tree)) tree a in
+      let m = then_ok (require_type (among test s.0.typing)) (λ _. Ok s.0.tree) tree s.2 in
+      let r = ruled_ok (among test s.0.typing) m.0 m.1 in
       let c = checked_type e s.0 s.1 in
       subst (λ x. IsTyped (among test (type_of row x))) (same_ok s.0.tree tree m.2) (subst (λ u. IsTyped (among test u)) (sym c.1) r.0)
 
-  pub tested_if_type : (test : Kind → Bool) (e : Option Expr) (tree : Option Typed) → tested_if test scope e ≡ Ok tree → IfSome tree (λ x. IsTyped (among test (type_of row x)))
+  pub tested_if_type : (test : Kind → Bool) (e : Option Expr) (tree : Option Typed) → resolve_if test scope e ≡ Ok tree → IfSome tree (λ x. IsTyped (among test (type_of row x)))
   tested_if_type test None tree a = subst (λ x. IfSome x (λ y. IsTyped (among test (type_of row y)))) (same_ok None tree a) tt
   tested_if_type test (Some e) tree a =
-      let s = then_ok (tested test scope e) (λ x. Ok (Some x)) tree a in
+      let s = then_ok (resolve_among test scope e) (λ x. Ok (Some x)) tree a in
       subst (λ x. IfSome x (λ y. IsTyped (among test (type_of row y)))) (same_ok (Some s.0) tree s.2) (tested_type test e s.0 s.1)
 
-  pub resolved_types : (es : List Expr) (trees : List Typed) → resolved scope es ≡ Ok trees → AreTyped (type_of row) trees
+  pub resolved_types : (es : List Expr) (trees : List Typed) → resolve_each scope es ≡ Ok trees → AreTyped (type_of row) trees
   resolved_types [] trees a = subst (AreTyped (type_of row)) (same_ok [] trees a) tt
   resolved_types (e ∷ es) trees a =
-      let s = then_ok (resolved_one scope e) (λ x. then_with (resolved scope es) (λ xs. Ok (x ∷ xs))) trees a in
-      let m = then_ok (resolved scope es) (λ xs. Ok (s.0 ∷ xs)) trees s.2 in
+      let s = then_ok (resolve scope e) (λ x. then_with (resolve_each scope es) (λ xs. Ok (x ∷ xs))) trees a in
+      let m = then_ok (resolve_each scope es) (λ xs. Ok (s.0 ∷ xs)) trees s.2 in
       let o = then_ok (checked scope false e) (λ c. Ok c.tree) s.0 s.1 in
       let c = checked_type e o.0 o.1 in
       let one : IsTyped (type_of row s.0) = subst (λ x. IsTyped (type_of row x)) (same_ok o.0.tree s.0 o.2) (subst IsTyped (sym c.1) c.0) in
       subst (AreTyped (type_of row)) (same_ok (s.0 ∷ m.0) trees m.2) (one, resolved_types es m.0 m.1)
 
-  field_fits : (alias : Option (List ℕ)) (e : Expr) (x : Shown) → shown_field scope alias e ≡ Ok x → IsTyped x.type × (type_in_group row x.tree ≡ x.type)
+  field_fits : (alias : Option (List ℕ)) (e : Expr) (x : Shown) → shown_field scope alias e ≡ Ok x → IsTyped x.typing × (type_in_group row x.tree ≡ x.typing)
   field_fits alias e x a =
-      let s = then_ok (checked scope true e) (λ c. Ok (record { name = field_name alias (plain_name e); type = c.type; tree = c.tree })) x a in
+      let s = then_ok (checked scope true e) (λ c. Ok (record { name = field_name alias (plain_name e); typing = c.typing; tree = c.tree })) x a in
       let f = is_so row scope stands e true s.0 s.1 in
-      subst (λ y. IsTyped y.type × (type_in_group row y.tree ≡ y.type)) (same_ok (record { name = field_name alias (plain_name e); type = s.0.type; tree = s.0.tree }) x s.2) (f.typed, f.is)
+      subst (λ y. IsTyped y.typing × (type_in_group row y.tree ≡ y.typing)) (same_ok (record { name = field_name alias (plain_name e); typing = s.0.typing; tree = s.0.tree }) x s.2) (f.typed, f.is)
 
   pub fields_fit : (fields : List Field) (shown : List Shown) → shown_fields scope fields ≡ Ok shown → FieldsFit row shown
   fields_fit [] shown a = subst (FieldsFit row) (same_ok [] shown a) tt

@@ -1,7 +1,8 @@
 -- The plan of a SELECT keeps what is promised of its types.
 use Rattle.std.proofs.Common.{◌≡◌, ℕ, suc, Bool, true, false, ◌||◌, if◌then◌else◌, inl, inr, List, [], ◌∷◌, ◌++◌, map, length, Option, Some, None, IfSome, Ok, refl, sym, ap, subst, ◌∙◌, append_assoc, append-nil}
 use Rattle.ql_value.specs.Kinds.{is_integer, is_truth}
-use Rattle.ql_syntax.specs.Typing.{Typing, IsTyped, among, type_of, place_type}
+use Rattle.ql_syntax.specs.declared.typing.Typing.{Typing}
+use Rattle.ql_syntax.specs.Typing.{IsTyped, among, type_of, place_type}
 use Rattle.ql_syntax.specs.declared.statement.ColumnDef.{ColumnDef}
 use Rattle.ql_syntax.specs.declared.statement.Statement.{Statement}
 use Rattle.ql_syntax.specs.declared.statement.Statement.TheVariants as s
@@ -13,13 +14,17 @@ use Rattle.ql_syntax.specs.declared.syntax.Join.{Join}
 use Rattle.ql_syntax.specs.declared.syntax.Link.{Link}
 use Rattle.ql_syntax.specs.declared.syntax.Select.{Select, out-Select}
 use Rattle.ql_syntax.specs.declared.syntax.SetSource.{SetSource, out-SetSource}
+use Rattle.ql_rel.specs.declared.scope.Slot.{Slot}
+use Rattle.ql_rel.specs.declared.select.Shown.{Shown}
+use Rattle.ql_rel.specs.declared.select.Source.{Source}
+use Rattle.ql_rel.specs.declared.select.Output.{Output}
+use Rattle.ql_rel.specs.declared.select.Limits.{Limits}
 use Rattle.ql_rel.specs.declared.plan.Plan.{Plan}
 use Rattle.ql_rel.specs.declared.schema.Schema.{Schema}
 use Rattle.ql_rel.specs.declared.schema.TableSchema.{TableSchema}
 use Rattle.ql_rel.specs.Answers.{then_with, refused, refused_at}
 use Rattle.ql_rel.specs.Aggregates.{has_aggregate}
-use Rattle.ql_rel.specs.Scopes.{Slot}
-use Rattle.ql_rel.specs.Plans.{Shown, Source, Output, Limits, table_named, is_metadata, column_slots, set_slots, is_taken, set_name, add_table, add_source, add_set, add_sets, without_join, row_scope, tested_if, resolved, star_field, star_fields, are_several, star, shown, any_shown, field_slots, key_scope, is_some_list, source_of, output_of, limits_of, plan_of, select_plan, plan}
+use Rattle.ql_rel.specs.Plans.{table_named, is_metadata, column_slots, set_slots, is_taken, set_name, add_table, add_source, add_set, add_sets, without_join, row_scope, resolve_if, resolve_each, star_field, star_fields, are_several, star, shown, any_shown, field_slots, key_scope, is_some_list, source_of, output_of, limits_of, plan_of, select_plan, plan}
 use Rattle.ql_rel.specs.PlanTypes.{slot_types, types_if, row_types, type_in_group, AreTyped, PlanTyped}
 use Rattle.ql_rel.proofs.TypedBy.{by_place}
 use Rattle.ql_rel.proofs.Fits.{then_ok, same_ok}
@@ -31,7 +36,7 @@ use Rattle.ql_rel.proofs.PlanFits.{tested_if_type, resolved_types, FieldsFit, fi
 -- the values at each place have a type
 abbrev AllTyped : List Slot → Type 0
 AllTyped [] = Unit {0}
-AllTyped (x ∷ slots) = IsTyped x.type × AllTyped slots
+AllTyped (x ∷ slots) = IsTyped x.typing × AllTyped slots
 
 both_typed : (a b : List Slot) → AllTyped a → AllTyped b → AllTyped (a ++ b)
 both_typed [] b p q = q
@@ -76,10 +81,10 @@ stand : (before : List Typing) (slots : List Slot) (after : List Typing) → All
 stand before [] after h = tt
 stand before (x ∷ slots) after h =
     let rest = slot_types slots ++ after in
-    let next = stand (before ++ x.type ∷ []) slots after h.1 in (
-      place_behind before x.type rest,
+    let next = stand (before ++ x.typing ∷ []) slots after h.1 in (
+      place_behind before x.typing rest,
       h.0,
-      subst (λ n. Stand (before ++ (x.type ∷ rest)) n slots) (one_longer before x.type) (subst (λ ts. Stand ts (length (before ++ x.type ∷ [])) slots) (append_assoc before (x.type ∷ []) rest) next),
+      subst (λ n. Stand (before ++ (x.typing ∷ rest)) n slots) (one_longer before x.typing) (subst (λ ts. Stand ts (length (before ++ x.typing ∷ [])) slots) (append_assoc before (x.typing ∷ []) rest) next),
     )
 
 row_stands : (slots : List Slot) → AllTyped slots → Stands (slot_types slots) (row_scope slots)
@@ -88,7 +93,7 @@ row_stands slots h = record { seen = subst (λ ts. Stand ts 0 slots) (append-nil
 none_stand : Stands [] (row_scope [])
 none_stand = record { seen = tt; fields = tt }
 
-one_star : (row : List Typing) (several : Bool) (at : ℕ) (x : Slot) (column : Option (List ℕ)) (more : List Shown) → place_type row at ≡ x.type → IsTyped x.type → FieldsFit row more → FieldsFit row (star_field several at x column ++ more)
+one_star : (row : List Typing) (several : Bool) (at : ℕ) (x : Slot) (column : Option (List ℕ)) (more : List Shown) → place_type row at ≡ x.typing → IsTyped x.typing → FieldsFit row more → FieldsFit row (star_field several at x column ++ more)
 one_star row several at x None more p h m = m
 one_star row several at x (Some column) more p h m = ((h, by_place true row at ∙ p), m)
 
@@ -124,7 +129,7 @@ at_row : (row : List Typing) (fields : List Shown) → FieldsFit row fields → 
 at_row row [] h e = tt
 at_row row (x ∷ fields) h e =
     let own = left_false (has_aggregate x.tree) (any_shown fields) e in
-    let is : type_of row x.tree ≡ x.type = sym (same_types row x.tree true (λ _. own)) ∙ h.0.1 in
+    let is : type_of row x.tree ≡ x.typing = sym (same_types row x.tree true (λ _. own)) ∙ h.0.1 in
     (subst IsTyped (sym is) h.0.0, at_row row fields h.1 (right_false (has_aggregate x.tree) (any_shown fields) e))
 
 field_types : (row : List Typing) (fields : List Shown) → FieldsFit row fields → slot_types (field_slots fields) ≡ map (type_in_group row) (map (λ x. x.tree) fields)
@@ -165,13 +170,13 @@ record SourceFits (schema : Schema) (select : Select) (x : Source) : Type 0 wher
   filter : IfSome x.filter (λ e. IsTyped (among is_truth (type_of (slot_types slots) e)))
   groups : AreTyped (type_of (slot_types slots)) x.groups
 
-source_behind : (schema : Schema) (select : Select) (x : Source) (slots : List Slot) → add_sets schema [] (out-Select select).sets ≡ Ok slots → then_with (without_join (out-Select select).join) (λ _. then_with (tested_if is_truth (row_scope slots) (out-Select select).filter) (λ filter. then_with (resolved (row_scope slots) (out-Select select).groups) (λ groups. Ok (record { row = row_scope slots; filter = filter; groups = groups })))) ≡ Ok x → SourceFits schema select x
+source_behind : (schema : Schema) (select : Select) (x : Source) (slots : List Slot) → add_sets schema [] (out-Select select).sets ≡ Ok slots → then_with (without_join (out-Select select).join) (λ _. then_with (resolve_if is_truth (row_scope slots) (out-Select select).filter) (λ filter. then_with (resolve_each (row_scope slots) (out-Select select).groups) (λ groups. Ok (record { row = row_scope slots; filter = filter; groups = groups })))) ≡ Ok x → SourceFits schema select x
 source_behind schema select x slots e a =
     let q = out-Select select in
     let typed = sets_typed schema [] slots q.sets tt e in
-    let j = then_ok (without_join q.join) (λ _. then_with (tested_if is_truth (row_scope slots) q.filter) (λ filter. then_with (resolved (row_scope slots) q.groups) (λ groups. Ok (record { row = row_scope slots; filter = filter; groups = groups })))) x a in
-    let f = then_ok (tested_if is_truth (row_scope slots) q.filter) (λ filter. then_with (resolved (row_scope slots) q.groups) (λ groups. Ok (record { row = row_scope slots; filter = filter; groups = groups }))) x j.2 in
-    let g = then_ok (resolved (row_scope slots) q.groups) (λ groups. Ok (record { row = row_scope slots; filter = f.0; groups = groups })) x f.2 in
+    let j = then_ok (without_join q.join) (λ _. then_with (resolve_if is_truth (row_scope slots) q.filter) (λ filter. then_with (resolve_each (row_scope slots) q.groups) (λ groups. Ok (record { row = row_scope slots; filter = filter; groups = groups })))) x a in
+    let f = then_ok (resolve_if is_truth (row_scope slots) q.filter) (λ filter. then_with (resolve_each (row_scope slots) q.groups) (λ groups. Ok (record { row = row_scope slots; filter = filter; groups = groups }))) x j.2 in
+    let g = then_ok (resolve_each (row_scope slots) q.groups) (λ groups. Ok (record { row = row_scope slots; filter = f.0; groups = groups })) x f.2 in
     let stands = row_stands slots typed in
     subst (SourceFits schema select) (same_ok (record { row = row_scope slots; filter = f.0; groups = g.0 }) x g.2) (record {
       slots = slots;
@@ -185,7 +190,7 @@ source_behind schema select x slots e a =
 source_fits : (schema : Schema) (select : Select) (x : Source) → source_of schema select ≡ Ok x → SourceFits schema select x
 source_fits schema select x a =
     let q = out-Select select in
-    let m = then_ok (add_sets schema [] q.sets) (λ slots. then_with (without_join q.join) (λ _. then_with (tested_if is_truth (row_scope slots) q.filter) (λ filter. then_with (resolved (row_scope slots) q.groups) (λ groups. Ok (record { row = row_scope slots; filter = filter; groups = groups }))))) x a in
+    let m = then_ok (add_sets schema [] q.sets) (λ slots. then_with (without_join q.join) (λ _. then_with (resolve_if is_truth (row_scope slots) q.filter) (λ filter. then_with (resolve_each (row_scope slots) q.groups) (λ groups. Ok (record { row = row_scope slots; filter = filter; groups = groups }))))) x a in
     source_behind schema select x m.0 m.1 m.2
 
 -- the fields and the keys
@@ -194,13 +199,13 @@ record OutputFits (row : List Typing) (grouped_by : Bool) (o : Output) : Type 0 
   grouped : (grouped_by || any_shown o.fields) ≡ o.grouped
   keys : AreTyped (type_of (row ++ map (type_in_group row) (map (λ x. x.tree) o.fields))) o.keys
 
-output_behind : (slots : List Slot) (grouped_by : Bool) (select : Select) (o : Output) (fields : List Shown) → AllTyped slots → FieldsFit (slot_types slots) fields → then_with (resolved (key_scope ((out-Select select).distinct || (grouped_by || any_shown fields)) (row_scope slots) fields) (out-Select select).keys) (λ keys. Ok (record { fields = fields; grouped = grouped_by || any_shown fields; keys = keys })) ≡ Ok o → OutputFits (slot_types slots) grouped_by o
+output_behind : (slots : List Slot) (grouped_by : Bool) (select : Select) (o : Output) (fields : List Shown) → AllTyped slots → FieldsFit (slot_types slots) fields → then_with (resolve_each (key_scope ((out-Select select).distinct || (grouped_by || any_shown fields)) (row_scope slots) fields) (out-Select select).keys) (λ keys. Ok (record { fields = fields; grouped = grouped_by || any_shown fields; keys = keys })) ≡ Ok o → OutputFits (slot_types slots) grouped_by o
 output_behind slots grouped_by select o fields h f a =
     let q = out-Select select in
     let row = slot_types slots in
     let hides = q.distinct || (grouped_by || any_shown fields) in
     let scope = key_scope hides (row_scope slots) fields in
-    let k = then_ok (resolved scope q.keys) (λ keys. Ok (record { fields = fields; grouped = grouped_by || any_shown fields; keys = keys })) o a in
+    let k = then_ok (resolve_each scope q.keys) (λ keys. Ok (record { fields = fields; grouped = grouped_by || any_shown fields; keys = keys })) o a in
     subst (OutputFits row grouped_by) (same_ok (record { fields = fields; grouped = grouped_by || any_shown fields; keys = k.0 }) o k.2) (record {
       fields = f;
       grouped = refl;
@@ -210,7 +215,7 @@ output_behind slots grouped_by select o fields h f a =
 output_fits : (slots : List Slot) (grouped_by : Bool) (select : Select) (o : Output) → AllTyped slots → output_of (row_scope slots) grouped_by select ≡ Ok o → OutputFits (slot_types slots) grouped_by o
 output_fits slots grouped_by select o h a =
     let q = out-Select select in
-    let m = then_ok (shown (row_scope slots) q.fields) (λ fields. then_with (resolved (key_scope (q.distinct || (grouped_by || any_shown fields)) (row_scope slots) fields) q.keys) (λ keys. Ok (record { fields = fields; grouped = grouped_by || any_shown fields; keys = keys }))) o a in
+    let m = then_ok (shown (row_scope slots) q.fields) (λ fields. then_with (resolve_each (key_scope (q.distinct || (grouped_by || any_shown fields)) (row_scope slots) fields) q.keys) (λ keys. Ok (record { fields = fields; grouped = grouped_by || any_shown fields; keys = keys }))) o a in
     let f = shown_fit slots q.fields m.0 h m.1 in
     output_behind slots grouped_by select o m.0 h f m.2
 
@@ -221,8 +226,8 @@ record LimitsFit (l : Limits) : Type 0 where
 limits_fit : (select : Select) (l : Limits) → limits_of select ≡ Ok l → LimitsFit l
 limits_fit select l a =
     let q = out-Select select in
-    let m = then_ok (tested_if is_integer (row_scope []) q.limit) (λ limit. then_with (tested_if is_integer (row_scope []) q.offset) (λ offset. Ok (record { limit = limit; offset = offset }))) l a in
-    let n = then_ok (tested_if is_integer (row_scope []) q.offset) (λ offset. Ok (record { limit = m.0; offset = offset })) l m.2 in
+    let m = then_ok (resolve_if is_integer (row_scope []) q.limit) (λ limit. then_with (resolve_if is_integer (row_scope []) q.offset) (λ offset. Ok (record { limit = limit; offset = offset }))) l a in
+    let n = then_ok (resolve_if is_integer (row_scope []) q.offset) (λ offset. Ok (record { limit = m.0; offset = offset })) l m.2 in
     subst LimitsFit (same_ok (record { limit = m.0; offset = n.0 }) l n.2)
     (record { limit = tested_if_type [] (row_scope []) none_stand is_integer q.limit m.0 m.1; offset = tested_if_type [] (row_scope []) none_stand is_integer q.offset n.0 n.1 })
 

@@ -13,19 +13,22 @@ use Rattle.ql_syntax.specs.declared.syntax.Function.{Function}
 use Rattle.ql_syntax.specs.declared.syntax.Function.TheVariants as f
 use Rattle.ql_syntax.specs.declared.typed.Typed.{Typed}
 use Rattle.ql_syntax.specs.declared.typed.Typed.TheVariants as t
-use Rattle.ql_syntax.specs.Typing.{Typing, only_null, of_kind}
+use Rattle.ql_syntax.specs.declared.typing.Typing.{Typing}
+use Rattle.ql_syntax.specs.declared.typing.Typing.TheVariants.{OnlyNull, OfKind}
+use Rattle.ql_rel.specs.declared.checked.Checked.{Checked}
+use Rattle.ql_rel.specs.declared.scope.Slot.{Slot}
+use Rattle.ql_rel.specs.declared.scope.Scope.{Scope}
 use Rattle.ql_rel.specs.Answers.{Answer, refused, refused_at}
-use Rattle.ql_rel.specs.Scopes.{Slot, Scope}
-use Rattle.ql_rel.specs.Checked.{Checked, known}
+use Rattle.ql_rel.specs.Checked.{of_type}
 use Rattle.ql_rel.specs.Operands.{link}
 use Rattle.ql_rel.specs.Types.{Judged, expr_step}
 
 -- the id and the columns of a record set
 abbrev id_of : List ℕ → Slot
-id_of set = record { set = Some set; column = None; type = of_kind k.Int64 }
+id_of set = record { set = Some set; column = None; typing = OfKind k.Int64 }
 
 abbrev column_of : List ℕ → List ℕ → Kind → Slot
-column_of set name kind = record { set = Some set; column = Some name; type = of_kind kind }
+column_of set name kind = record { set = Some set; column = Some name; typing = OfKind kind }
 
 -- no record set; `t (a int8, s string)`; and `t` beside `u (a int64)`
 abbrev nothing : Scope
@@ -42,7 +45,7 @@ two = record { seen = table ++ (id_of (codes "u") ∷ column_of (codes "u") (cod
 
 -- one field that is named `a`, behind a row that is hidden
 abbrev behind : Scope
-behind = record { seen = []; fields = record { set = None; column = Some (codes "a"); type = of_kind k.Text } ∷ []; width = 3 }
+behind = record { seen = []; fields = record { set = None; column = Some (codes "a"); typing = OfKind k.Text } ∷ []; width = 3 }
 
 module _ (scope : Scope) where
   abbrev number : ℕ → Judged
@@ -118,10 +121,10 @@ abbrev constant : Kind → ℤ → Typed
 constant kind z = t.Constant (v.Int kind z)
 
 abbrev untyped : Typed → Answer Checked
-untyped tree = Ok (record { literal = None; untyped = true; type = of_kind k.Int64; tree = tree })
+untyped tree = Ok (record { literal = None; untyped = true; typing = OfKind k.Int64; tree = tree })
 
 abbrev typed : Typing → Typed → Answer Checked
-typed type tree = Ok (known type tree)
+typed type tree = Ok (of_type type tree)
 
 abbrev chain_of : Typed → BinOp → Typed → Typed
 chain_of a o b = t.Chain a (link o b ∷ [])
@@ -160,7 +163,7 @@ below = refl
 far_below : at_row (as_kind nothing k.Int8 (minus nothing (2 ^ 64 - 1))) ≡ refused 7
 far_below = refl
 
-low_bits : at_row (as_kind nothing k.Int8 (brackets nothing (number nothing 300))) ≡ typed (of_kind k.Int8) (t.Convert k.Int8 (constant k.Int64 (pos 300)))
+low_bits : at_row (as_kind nothing k.Int8 (brackets nothing (number nothing 300))) ≡ typed (OfKind k.Int8) (t.Convert k.Int8 (constant k.Int64 (pos 300)))
 low_bits = refl
 
 -- `bool(1)` and `string(1)` are 5, `blob("a")` is a blob
@@ -170,7 +173,7 @@ no_truth = refl
 no_text : at_row (as_kind nothing k.Text (number nothing 1)) ≡ refused 5
 no_text = refl
 
-to_blob : at_row (blob nothing (codes "a")) ≡ typed (of_kind k.Blob) (t.Convert k.Blob (text_tree (codes "a")))
+to_blob : at_row (blob nothing (codes "a")) ≡ typed (OfKind k.Blob) (t.Convert k.Blob (text_tree (codes "a")))
 to_blob = refl
 
 -- `300 + int8(1)`, `int8(1) + -129` and `int8(1) == 300` are 7, `int8(1) + -128` is fine
@@ -180,7 +183,7 @@ literal_before = refl
 minus_meets : at_row (pair nothing (int8 nothing 1) op.Add (minus nothing 129)) ≡ refused 7
 minus_meets = refl
 
-least_meets : at_row (pair nothing (int8 nothing 1) op.Add (minus nothing 128)) ≡ typed (of_kind k.Int8) (chain_of (constant k.Int8 (pos 1)) op.Add (constant k.Int8 (negsuc 127)))
+least_meets : at_row (pair nothing (int8 nothing 1) op.Add (minus nothing 128)) ≡ typed (OfKind k.Int8) (chain_of (constant k.Int8 (pos 1)) op.Add (constant k.Int8 (negsuc 127)))
 least_meets = refl
 
 compared_meets : at_row (pair nothing (int8 nothing 1) op.Eq (number nothing 300)) ≡ refused 7
@@ -190,42 +193,42 @@ compared_meets = refl
 literal_meets : at_row (pair nothing (int8 nothing 1) op.Add (number nothing 300)) ≡ refused 7
 literal_meets = refl
 
-brackets_meet : at_row (pair nothing (int8 nothing 1) op.Add (brackets nothing (number nothing 300))) ≡ typed (of_kind k.Int8) (chain_of (constant k.Int8 (pos 1)) op.Add (t.Narrow k.Int8 (constant k.Int64 (pos 300))))
+brackets_meet : at_row (pair nothing (int8 nothing 1) op.Add (brackets nothing (number nothing 300))) ≡ typed (OfKind k.Int8) (chain_of (constant k.Int8 (pos 1)) op.Add (t.Narrow k.Int8 (constant k.Int64 (pos 300))))
 brackets_meet = refl
 
-plus_meets : at_row (pair nothing (int8 nothing 1) op.Add (signed nothing (un.Plus ∷ []) (number nothing 300))) ≡ typed (of_kind k.Int8) (chain_of (constant k.Int8 (pos 1)) op.Add (t.Narrow k.Int8 (t.Unary (un.Plus ∷ []) (constant k.Int64 (pos 300)))))
+plus_meets : at_row (pair nothing (int8 nothing 1) op.Add (signed nothing (un.Plus ∷ []) (number nothing 300))) ≡ typed (OfKind k.Int8) (chain_of (constant k.Int8 (pos 1)) op.Add (t.Narrow k.Int8 (t.Unary (un.Plus ∷ []) (constant k.Int64 (pos 300)))))
 plus_meets = refl
 
-two_signs_meet : at_row (pair nothing (int8 nothing 1) op.Add (signed nothing (un.Minus ∷ un.Minus ∷ []) (number nothing 300))) ≡ typed (of_kind k.Int8) (chain_of (constant k.Int8 (pos 1)) op.Add (t.Narrow k.Int8 (t.Unary (un.Minus ∷ []) (constant k.Int64 (negsuc 299)))))
+two_signs_meet : at_row (pair nothing (int8 nothing 1) op.Add (signed nothing (un.Minus ∷ un.Minus ∷ []) (number nothing 300))) ≡ typed (OfKind k.Int8) (chain_of (constant k.Int8 (pos 1)) op.Add (t.Narrow k.Int8 (t.Unary (un.Minus ∷ []) (constant k.Int64 (negsuc 299)))))
 two_signs_meet = refl
 
-sum_meets : at_row (pair nothing (int8 nothing 1) op.Add (brackets nothing (pair nothing (number nothing 100) op.Add (number nothing 100)))) ≡ typed (of_kind k.Int8) (chain_of (constant k.Int8 (pos 1)) op.Add (t.Narrow k.Int8 (chain_of (constant k.Int64 (pos 100)) op.Add (constant k.Int64 (pos 100)))))
+sum_meets : at_row (pair nothing (int8 nothing 1) op.Add (brackets nothing (pair nothing (number nothing 100) op.Add (number nothing 100)))) ≡ typed (OfKind k.Int8) (chain_of (constant k.Int8 (pos 1)) op.Add (t.Narrow k.Int8 (chain_of (constant k.Int64 (pos 100)) op.Add (constant k.Int64 (pos 100)))))
 sum_meets = refl
 
 -- in `1 + 2 + int8(3)` all that stands before meets int8, in `int8(3) + 1 + 2` each literal
-whole_meets : at_row (three nothing (number nothing 1) op.Add (number nothing 2) op.Add (int8 nothing 3)) ≡ typed (of_kind k.Int8) (chain_of (t.Narrow k.Int8 (chain_of (constant k.Int64 (pos 1)) op.Add (constant k.Int64 (pos 2)))) op.Add (constant k.Int8 (pos 3)))
+whole_meets : at_row (three nothing (number nothing 1) op.Add (number nothing 2) op.Add (int8 nothing 3)) ≡ typed (OfKind k.Int8) (chain_of (t.Narrow k.Int8 (chain_of (constant k.Int64 (pos 1)) op.Add (constant k.Int64 (pos 2)))) op.Add (constant k.Int8 (pos 3)))
 whole_meets = refl
 
-each_meets : at_row (three nothing (int8 nothing 3) op.Add (number nothing 1) op.Add (number nothing 2)) ≡ typed (of_kind k.Int8) (t.Chain (constant k.Int8 (pos 3)) (link op.Add (constant k.Int8 (pos 1)) ∷ link op.Add (constant k.Int8 (pos 2)) ∷ []))
+each_meets : at_row (three nothing (int8 nothing 3) op.Add (number nothing 1) op.Add (number nothing 2)) ≡ typed (OfKind k.Int8) (t.Chain (constant k.Int8 (pos 3)) (link op.Add (constant k.Int8 (pos 1)) ∷ link op.Add (constant k.Int8 (pos 2)) ∷ []))
 each_meets = refl
 
 -- `1 << -1` is untyped and fine here; `1 << uint8(3)` is int64
 shift : at_row (pair nothing (number nothing 1) op.Shl (minus nothing 1)) ≡ untyped (chain_of (constant k.Int64 (pos 1)) op.Shl (constant k.Int64 (negsuc 0)))
 shift = refl
 
-typed_count : at_row (pair nothing (number nothing 1) op.Shl (as_kind nothing k.Uint8 (number nothing 3))) ≡ typed (of_kind k.Int64) (chain_of (constant k.Int64 (pos 1)) op.Shl (constant k.Uint8 (pos 3)))
+typed_count : at_row (pair nothing (number nothing 1) op.Shl (as_kind nothing k.Uint8 (number nothing 3))) ≡ typed (OfKind k.Int64) (chain_of (constant k.Int64 (pos 1)) op.Shl (constant k.Uint8 (pos 3)))
 typed_count = refl
 
 -- `int8(1) << 300`: a count meets no kind
-count_alone : at_row (pair nothing (int8 nothing 1) op.Shl (number nothing 300)) ≡ typed (of_kind k.Int8) (chain_of (constant k.Int8 (pos 1)) op.Shl (constant k.Int64 (pos 300)))
+count_alone : at_row (pair nothing (int8 nothing 1) op.Shl (number nothing 300)) ≡ typed (OfKind k.Int8) (chain_of (constant k.Int8 (pos 1)) op.Shl (constant k.Int64 (pos 300)))
 count_alone = refl
 
 -- two untyped sides of a comparison are int64: `1 < 300`
-untyped_compared : at_row (pair nothing (number nothing 1) op.Lt (number nothing 300)) ≡ typed (of_kind k.Bool) (chain_of (constant k.Int64 (pos 1)) op.Lt (constant k.Int64 (pos 300)))
+untyped_compared : at_row (pair nothing (number nothing 1) op.Lt (number nothing 300)) ≡ typed (OfKind k.Bool) (chain_of (constant k.Int64 (pos 1)) op.Lt (constant k.Int64 (pos 300)))
 untyped_compared = refl
 
 -- `NULL + 1` is int64; `1 == "a"` and `true < false` are 5
-null_beside : at_row (pair nothing (null nothing) op.Add (number nothing 1)) ≡ typed (of_kind k.Int64) (chain_of (t.Constant v.Null) op.Add (constant k.Int64 (pos 1)))
+null_beside : at_row (pair nothing (null nothing) op.Add (number nothing 1)) ≡ typed (OfKind k.Int64) (chain_of (t.Constant v.Null) op.Add (constant k.Int64 (pos 1)))
 null_beside = refl
 
 two_sorts : at_row (pair nothing (number nothing 1) op.Eq (text nothing (codes "a"))) ≡ refused 5
@@ -235,7 +238,7 @@ no_order : at_row (pair nothing (truth nothing true) op.Lt (truth nothing false)
 no_order = refl
 
 -- `true == false` is fine; `1 && true`, `blob("a") + blob("b")`, `!1` and `-"a"` are 5; `"a" + "b"` is a string, and `!NULL` NULL
-truths_equal : at_row (pair nothing (truth nothing true) op.Eq (truth nothing false)) ≡ typed (of_kind k.Bool) (chain_of (t.Constant (v.Bool true)) op.Eq (t.Constant (v.Bool false)))
+truths_equal : at_row (pair nothing (truth nothing true) op.Eq (truth nothing false)) ≡ typed (OfKind k.Bool) (chain_of (t.Constant (v.Bool true)) op.Eq (t.Constant (v.Bool false)))
 truths_equal = refl
 
 number_and : at_row (pair nothing (number nothing 1) op.Both (truth nothing true)) ≡ refused 5
@@ -250,34 +253,34 @@ not_number = refl
 minus_text : at_row (signed nothing (un.Minus ∷ []) (text nothing (codes "a"))) ≡ refused 5
 minus_text = refl
 
-two_texts : at_row (pair nothing (text nothing (codes "a")) op.Add (text nothing (codes "b"))) ≡ typed (of_kind k.Text) (chain_of (text_tree (codes "a")) op.Add (text_tree (codes "b")))
+two_texts : at_row (pair nothing (text nothing (codes "a")) op.Add (text nothing (codes "b"))) ≡ typed (OfKind k.Text) (chain_of (text_tree (codes "a")) op.Add (text_tree (codes "b")))
 two_texts = refl
 
-not_null : at_row (signed nothing (un.Not ∷ []) (null nothing)) ≡ typed only_null (t.Unary (un.Not ∷ []) (t.Constant v.Null))
+not_null : at_row (signed nothing (un.Not ∷ []) (null nothing)) ≡ typed OnlyNull (t.Unary (un.Not ∷ []) (t.Constant v.Null))
 not_null = refl
 
 -- `-9223372036854775808` is untyped, `9223372036854775808` a uint64, and `- -9223372036854775808` minus the first
-least : at_row (minus nothing (2 ^ 63)) ≡ Ok (record { literal = Some (record { minus = true; size = 2 ^ 63 }); untyped = true; type = of_kind k.Int64; tree = constant k.Int64 (negsuc (2 ^ 63 - 1)) })
+least : at_row (minus nothing (2 ^ 63)) ≡ Ok (record { literal = Some (record { minus = true; size = 2 ^ 63 }); untyped = true; typing = OfKind k.Int64; tree = constant k.Int64 (negsuc (2 ^ 63 - 1)) })
 least = refl
 
-large : at_row (brackets nothing (number nothing (2 ^ 63))) ≡ typed (of_kind k.Uint64) (constant k.Uint64 (pos (2 ^ 63)))
+large : at_row (brackets nothing (number nothing (2 ^ 63))) ≡ typed (OfKind k.Uint64) (constant k.Uint64 (pos (2 ^ 63)))
 large = refl
 
 two_signs : at_row (signed nothing (un.Minus ∷ un.Minus ∷ []) (number nothing (2 ^ 63))) ≡ untyped (t.Unary (un.Minus ∷ []) (constant k.Int64 (negsuc (2 ^ 63 - 1))))
 two_signs = refl
 
 -- `-9223372036854775809` is minus a uint64, and `1 - 9223372036854775808` a difference of two
-beyond : at_row (brackets nothing (minus nothing (2 ^ 63 + 1))) ≡ typed (of_kind k.Uint64) (constant k.Uint64 (pos (2 ^ 63 - 1)))
+beyond : at_row (brackets nothing (minus nothing (2 ^ 63 + 1))) ≡ typed (OfKind k.Uint64) (constant k.Uint64 (pos (2 ^ 63 - 1)))
 beyond = refl
 
-less_large : at_row (pair nothing (number nothing 1) op.Sub (number nothing (2 ^ 63))) ≡ typed (of_kind k.Uint64) (chain_of (constant k.Uint64 (pos 1)) op.Sub (constant k.Uint64 (pos (2 ^ 63))))
+less_large : at_row (pair nothing (number nothing 1) op.Sub (number nothing (2 ^ 63))) ≡ typed (OfKind k.Uint64) (chain_of (constant k.Uint64 (pos 1)) op.Sub (constant k.Uint64 (pos (2 ^ 63))))
 less_large = refl
 
 -- `coalesce(1, 300, int8(2))` is 7 and `coalesce(1, 300)` an int64; `coalesce()` is 6
 parts_meet : at_row (of nothing f.Coalesce (number nothing 1 ∷ number nothing 300 ∷ int8 nothing 2 ∷ [])) ≡ refused 7
 parts_meet = refl
 
-parts_alone : at_row (of nothing f.Coalesce (number nothing 1 ∷ number nothing 300 ∷ [])) ≡ typed (of_kind k.Int64) (t.Call f.Coalesce (constant k.Int64 (pos 1) ∷ constant k.Int64 (pos 300) ∷ []))
+parts_alone : at_row (of nothing f.Coalesce (number nothing 1 ∷ number nothing 300 ∷ [])) ≡ typed (OfKind k.Int64) (t.Call f.Coalesce (constant k.Int64 (pos 1) ∷ constant k.Int64 (pos 300) ∷ []))
 parts_alone = refl
 
 no_parts : at_row (of nothing f.Coalesce []) ≡ refused 6
@@ -294,21 +297,21 @@ no_range = refl
 text_first : at_row (among nothing (number nothing 300) (text nothing (codes "a") ∷ int8 nothing 1 ∷ [])) ≡ refused 5
 text_first = refl
 
-truth_in : at_row (not_among nothing (truth nothing true) (truth nothing false ∷ [])) ≡ typed (of_kind k.Bool) (t.Unary (un.Not ∷ []) (t.IsIn (t.Constant (v.Bool true)) (t.Constant (v.Bool false) ∷ [])))
+truth_in : at_row (not_among nothing (truth nothing true) (truth nothing false ∷ [])) ≡ typed (OfKind k.Bool) (t.Unary (un.Not ∷ []) (t.IsIn (t.Constant (v.Bool true)) (t.Constant (v.Bool false) ∷ [])))
 truth_in = refl
 
 -- `2 BETWEEN int8(1) AND 3` is `(2 >= 1) && (2 <= 3)`; `int8(1) BETWEEN 300 AND int16(5)` is 7, and `1 IS NULL` fine
-two_bounds : at_row (from_to nothing (number nothing 2) (int8 nothing 1) (number nothing 3)) ≡ typed (of_kind k.Bool) (chain_of (chain_of (constant k.Int8 (pos 2)) op.Ge (constant k.Int8 (pos 1))) op.Both (chain_of (constant k.Int8 (pos 2)) op.Le (constant k.Int8 (pos 3))))
+two_bounds : at_row (from_to nothing (number nothing 2) (int8 nothing 1) (number nothing 3)) ≡ typed (OfKind k.Bool) (chain_of (chain_of (constant k.Int8 (pos 2)) op.Ge (constant k.Int8 (pos 1))) op.Both (chain_of (constant k.Int8 (pos 2)) op.Le (constant k.Int8 (pos 3))))
 two_bounds = refl
 
 part_first : at_row (from_to nothing (int8 nothing 1) (number nothing 300) (int16 nothing 5)) ≡ refused 7
 part_first = refl
 
-is_null : at_row (null_test nothing (number nothing 1)) ≡ typed (of_kind k.Bool) (t.IsNull (constant k.Int64 (pos 1)))
+is_null : at_row (null_test nothing (number nothing 1)) ≡ typed (OfKind k.Bool) (t.IsNull (constant k.Int64 (pos 1)))
 is_null = refl
 
 -- `len("a")` is an int64, `len(1)` 5, `len()` 6, and `len(nosuch, 1)` 2; `contains("a", NULL)` is a bool, and `contains("a", 1)` 5
-length_of_text : at_row (of nothing f.Len (text nothing (codes "a") ∷ [])) ≡ typed (of_kind k.Int64) (t.Call f.Len (text_tree (codes "a") ∷ []))
+length_of_text : at_row (of nothing f.Len (text nothing (codes "a") ∷ [])) ≡ typed (OfKind k.Int64) (t.Call f.Len (text_tree (codes "a") ∷ []))
 length_of_text = refl
 
 length_of_number : at_row (of nothing f.Len (number nothing 1 ∷ [])) ≡ refused 5
@@ -320,17 +323,17 @@ no_length = refl
 name_before_count : at_row (of nothing f.Len (name nothing (codes "nosuch") ∷ number nothing 1 ∷ [])) ≡ refused_at 2 (codes "nosuch")
 name_before_count = refl
 
-null_stands_in : at_row (of nothing f.Contains (text nothing (codes "a") ∷ null nothing ∷ [])) ≡ typed (of_kind k.Bool) (t.Call f.Contains (text_tree (codes "a") ∷ t.Constant v.Null ∷ []))
+null_stands_in : at_row (of nothing f.Contains (text nothing (codes "a") ∷ null nothing ∷ [])) ≡ typed (OfKind k.Bool) (t.Call f.Contains (text_tree (codes "a") ∷ t.Constant v.Null ∷ []))
 null_stands_in = refl
 
 number_stands_in : at_row (of nothing f.Contains (text nothing (codes "a") ∷ number nothing 1 ∷ [])) ≡ refused 5
 number_stands_in = refl
 
 -- `a`, `t.a`, `t.b`, `u.a` over one table; `a` over two that have it, and `s`
-own_column : at_row (name one (codes "a")) ≡ typed (of_kind k.Int8) (t.Place 1)
+own_column : at_row (name one (codes "a")) ≡ typed (OfKind k.Int8) (t.Place 1)
 own_column = refl
 
-its_column : at_row (qualified one (codes "t") (codes "s")) ≡ typed (of_kind k.Text) (t.Place 2)
+its_column : at_row (qualified one (codes "t") (codes "s")) ≡ typed (OfKind k.Text) (t.Place 2)
 its_column = refl
 
 no_column : at_row (qualified one (codes "t") (codes "b")) ≡ refused_at 2 (codes "t.b")
@@ -342,11 +345,11 @@ no_set = refl
 two_columns : at_row (name two (codes "a")) ≡ refused_at 3 (codes "a")
 two_columns = refl
 
-only_column : at_row (name two (codes "s")) ≡ typed (of_kind k.Text) (t.Place 2)
+only_column : at_row (name two (codes "s")) ≡ typed (OfKind k.Text) (t.Place 2)
 only_column = refl
 
 -- a field comes first, and a hidden row is not seen
-field_first : at_row (name behind (codes "a")) ≡ typed (of_kind k.Text) (t.Place 3)
+field_first : at_row (name behind (codes "a")) ≡ typed (OfKind k.Text) (t.Place 3)
 field_first = refl
 
 hidden : at_row (of behind f.Id []) ≡ refused_at 2 (codes "id")
@@ -356,13 +359,13 @@ hidden = refl
 no_id : at_row (of nothing f.Id []) ≡ refused_at 2 (codes "id")
 no_id = refl
 
-own_id : at_row (of one f.Id []) ≡ typed (of_kind k.Int64) (t.Place 0)
+own_id : at_row (of one f.Id []) ≡ typed (OfKind k.Int64) (t.Place 0)
 own_id = refl
 
 two_ids : at_row (of two f.Id []) ≡ refused_at 3 (codes "id")
 two_ids = refl
 
-its_id : at_row (of two f.Id (name two (codes "u") ∷ [])) ≡ typed (of_kind k.Int64) (t.Place 3)
+its_id : at_row (of two f.Id (name two (codes "u") ∷ [])) ≡ typed (OfKind k.Int64) (t.Place 3)
 its_id = refl
 
 no_such_id : at_row (of two f.Id (name two (codes "w") ∷ [])) ≡ refused_at 2 (codes "w")
@@ -387,13 +390,13 @@ its_name_first = refl
 misplaced : at_row (of one f.Sum (name one (codes "a") ∷ [])) ≡ refused 8
 misplaced = refl
 
-sum_of_column : in_field (of one f.Sum (name one (codes "a") ∷ [])) ≡ typed (of_kind k.Int8) (t.Aggregate f.Sum k.Int8 (Some (t.Place 1)))
+sum_of_column : in_field (of one f.Sum (name one (codes "a") ∷ [])) ≡ typed (OfKind k.Int8) (t.Aggregate f.Sum k.Int8 (Some (t.Place 1)))
 sum_of_column = refl
 
 one_inside : in_field (of one f.Sum (pair one (of one f.Count (number one 1 ∷ [])) op.Add (name one (codes "nosuch")) ∷ [])) ≡ refused 8
 one_inside = refl
 
-sum_of_null : in_field (of one f.Sum (null one ∷ [])) ≡ typed (of_kind k.Int64) (t.Aggregate f.Sum k.Int64 (Some (t.Constant v.Null)))
+sum_of_null : in_field (of one f.Sum (null one ∷ [])) ≡ typed (OfKind k.Int64) (t.Aggregate f.Sum k.Int64 (Some (t.Constant v.Null)))
 sum_of_null = refl
 
 -- `sum(count(nosuch))` is 2, and `sum()` in a filter 8 before 6
@@ -404,10 +407,10 @@ misplaced_first : at_row (of one f.Sum []) ≡ refused 8
 misplaced_first = refl
 
 -- `count()`, `count(s)`, `count(a, a)`; `sum(s)` and `min(true)` are 5
-rows_counted : in_field (of one f.Count []) ≡ typed (of_kind k.Int64) (t.Aggregate f.Count k.Int64 None)
+rows_counted : in_field (of one f.Count []) ≡ typed (OfKind k.Int64) (t.Aggregate f.Count k.Int64 None)
 rows_counted = refl
 
-values_counted : in_field (of one f.Count (name one (codes "s") ∷ [])) ≡ typed (of_kind k.Int64) (t.Aggregate f.Count k.Int64 (Some (t.Place 2)))
+values_counted : in_field (of one f.Count (name one (codes "s") ∷ [])) ≡ typed (OfKind k.Int64) (t.Aggregate f.Count k.Int64 (Some (t.Place 2)))
 values_counted = refl
 
 two_counted : in_field (of one f.Count (name one (codes "a") ∷ name one (codes "a") ∷ [])) ≡ refused 6

@@ -11,7 +11,9 @@ use Rattle.ql_syntax.specs.declared.typed.Typed.TheVariants as t
 use Rattle.ql_syntax.specs.declared.typed.Typed.TheOpen.{Typed-F, TypedLink-F}
 use Rattle.ql_syntax.specs.declared.typed.Typed.TheFolds.{fold-Typed, fold-TypedLink, fold-roll-Typed, fold-roll-TypedLink}
 use Rattle.ql_syntax.specs.declared.typed.TypedLink.{TypedLink, roll-TypedLink}
-use Rattle.ql_syntax.specs.Typing.{Typing, of_kind, among, given_type, meet, truth_of, meet_all, StepType, chain_type, prefixed_type, converts, call_type, constant_type, place_type}
+use Rattle.ql_syntax.specs.declared.typing.Typing.{Typing}
+use Rattle.ql_syntax.specs.declared.typing.Typing.TheVariants.{OfKind}
+use Rattle.ql_syntax.specs.Typing.{among, given_type, meet, truth_of, meet_all, StepType, chain_type, prefixed_type, converts, call_type, constant_type, place_type}
 use Rattle.ql_value.specs.Kinds.{is_integer}
 use Rattle.ql_rel.specs.Operands.{link}
 use Rattle.ql_rel.specs.PlanTypes.{aggregate_type, group_step, group_link, type_by}
@@ -48,10 +50,10 @@ module _ (may : Bool) (types : List Typing) where
   pub by_unary : (ops : List UnOp) (part : Typed) → type_by may types (t.Unary ops part) ≡ prefixed_type ops (type_by may types part)
   by_unary ops part = ap (type_by may types) (sym (t.rolls-Unary ops part)) ∙ by_roll (Typed-F.Unary ops part)
 
-  pub by_convert : (kind : Kind) (part : Typed) → type_by may types (t.Convert kind part) ≡ given_type (among (converts kind) (type_by may types part)) (of_kind kind)
+  pub by_convert : (kind : Kind) (part : Typed) → type_by may types (t.Convert kind part) ≡ given_type (among (converts kind) (type_by may types part)) (OfKind kind)
   by_convert kind part = ap (type_by may types) (sym (t.rolls-Convert kind part)) ∙ by_roll (Typed-F.Convert kind part)
 
-  pub by_narrow : (kind : Kind) (part : Typed) → type_by may types (t.Narrow kind part) ≡ given_type (among is_integer (type_by may types part)) (among is_integer (of_kind kind))
+  pub by_narrow : (kind : Kind) (part : Typed) → type_by may types (t.Narrow kind part) ≡ given_type (among is_integer (type_by may types part)) (among is_integer (OfKind kind))
   by_narrow kind part = ap (type_by may types) (sym (t.rolls-Narrow kind part)) ∙ by_roll (Typed-F.Narrow kind part)
 
   pub by_call : (function : Function) (parts : List Typed) → type_by may types (t.Call function parts) ≡ call_type function (map (type_by may types) parts)
@@ -67,8 +69,8 @@ module _ (may : Bool) (types : List Typing) where
   by_link o part = by_link_roll (record { op = o; part = part })
 
 -- an aggregate, where one may stand
-pub by_rows : (types : List Typing) (function : Function) (kind : Kind) → type_by true types (t.Aggregate function kind None) ≡ meet (of_kind kind) (aggregate_type function None)
+pub by_rows : (types : List Typing) (function : Function) (kind : Kind) → type_by true types (t.Aggregate function kind None) ≡ meet (OfKind kind) (aggregate_type function None)
 by_rows types function kind = ap (type_by true types) (sym (t.rolls-Aggregate function kind None)) ∙ by_roll true types (Typed-F.Aggregate function kind None)
 
-pub by_aggregate : (types : List Typing) (function : Function) (kind : Kind) (part : Typed) → type_by true types (t.Aggregate function kind (Some part)) ≡ meet (of_kind kind) (aggregate_type function (Some (type_by false types part)))
+pub by_aggregate : (types : List Typing) (function : Function) (kind : Kind) (part : Typed) → type_by true types (t.Aggregate function kind (Some part)) ≡ meet (OfKind kind) (aggregate_type function (Some (type_by false types part)))
 by_aggregate types function kind part = ap (type_by true types) (sym (t.rolls-Aggregate function kind (Some part))) ∙ by_roll true types (Typed-F.Aggregate function kind (Some part))

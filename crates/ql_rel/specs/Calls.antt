@@ -8,14 +8,17 @@ use Rattle.ql_syntax.specs.declared.syntax.Function.TheVariants as f
 use Rattle.ql_syntax.specs.declared.typed.Typed.{Typed}
 use Rattle.ql_syntax.specs.declared.typed.Typed.TheVariants as t
 use Rattle.ql_value.specs.Kinds.{is_integer, is_truth}
-use Rattle.ql_syntax.specs.Typing.{of_kind, among, given_type, converts, call_type}
+use Rattle.ql_syntax.specs.declared.typing.Typing.TheVariants.{OfKind}
+use Rattle.ql_syntax.specs.Typing.{among, given_type, converts, call_type}
+use Rattle.ql_rel.specs.declared.checked.Literal.{Literal}
+use Rattle.ql_rel.specs.declared.checked.Checked.{Checked}
 use Rattle.ql_rel.specs.Answers.{Answer, refused, then_with}
-use Rattle.ql_rel.specs.Checked.{Literal, Checked, known, literal_in, kind_or_int64, ruled}
+use Rattle.ql_rel.specs.Checked.{of_type, literal_in, kind_or_int64, require_type}
 use Rattle.ql_rel.specs.Operands.{first_kind, meet_each, types, trees}
 
 -- a conversion by the table
 abbrev pub convert_by_table : Kind → Checked → Answer Checked
-convert_by_table kind c = then_with (ruled (given_type (among (converts kind) c.type) (of_kind kind))) (λ type. Ok (known type (t.Convert kind c.tree)))
+convert_by_table kind c = then_with (require_type (given_type (among (converts kind) c.typing) (OfKind kind))) (λ type. Ok (of_type type (t.Convert kind c.tree)))
 
 -- a conversion to an integer kind of a literal
 abbrev pub convert_literal : Kind → Option Literal → Checked → Answer Checked
@@ -28,7 +31,7 @@ convert_to kind c = if is_integer kind then convert_literal kind c.literal c els
 
 -- a call by the table
 abbrev pub call_by_table : Function → List Checked → Answer Checked
-call_by_table function parts = then_with (ruled (call_type function (types parts))) (λ type. Ok (known type (t.Call function (trees parts))))
+call_by_table function parts = then_with (require_type (call_type function (types parts))) (λ type. Ok (of_type type (t.Call function (trees parts))))
 
 -- coalesce: all parts have one kind
 abbrev pub coalesce_of : List Checked → Answer Checked
@@ -64,7 +67,7 @@ is_aggregate _ = false
 
 -- an aggregate of a kind
 abbrev pub aggregate : Function → Kind → Option Typed → Checked
-aggregate function kind part = known (of_kind kind) (t.Aggregate function kind part)
+aggregate function kind part = of_type (OfKind kind) (t.Aggregate function kind part)
 
 -- the first part, if there is one
 abbrev pub first_part : List Checked → Option Checked
@@ -79,7 +82,7 @@ count_of (Some c) = aggregate f.Count k.Int64 (Some c.tree)
 -- an aggregate of values of kinds that pass the test: it has their kind, int64 where they are all NULL
 abbrev pub aggregate_first : Function → (Kind → Bool) → Option Checked → Answer Checked
 aggregate_first function test None = refused COUNT
-aggregate_first function test (Some c) = then_with (ruled (among test c.type)) (λ type. Ok (aggregate function (kind_or_int64 type) (Some c.tree)))
+aggregate_first function test (Some c) = then_with (require_type (among test c.typing)) (λ type. Ok (aggregate function (kind_or_int64 type) (Some c.tree)))
 
 -- an aggregate of its part; `count(*)` has none
 abbrev pub group_value : Function → Option Checked → Answer Checked

@@ -10,9 +10,14 @@ use Rattle.ql_syntax.specs.declared.typed.Typed.{Typed}
 use Rattle.ql_syntax.specs.declared.typed.Typed.TheVariants as t
 use Rattle.ql_syntax.specs.declared.typed.TypedLink.{TypedLink, roll-TypedLink}
 use Rattle.ql_value.specs.Kinds.{is_truth}
-use Rattle.ql_syntax.specs.Typing.{Typing, only_null, of_kind, among, meet_all, truth_of, operator_type, prefixed_type}
+use Rattle.ql_syntax.specs.declared.typing.Typing.{Typing}
+use Rattle.ql_syntax.specs.declared.typing.Typing.TheVariants.{OnlyNull, OfKind}
+use Rattle.ql_syntax.specs.Typing.{among, meet_all, truth_of, operator_type, prefixed_type}
+use Rattle.ql_rel.specs.declared.checked.Literal.{Literal}
+use Rattle.ql_rel.specs.declared.checked.Checked.{Checked}
+use Rattle.ql_rel.specs.declared.checked.Front.{Front}
 use Rattle.ql_rel.specs.Answers.{Answer, refused, then_with, all_of}
-use Rattle.ql_rel.specs.Checked.{Literal, Checked, known, literal_of, take_kind, meet_type, is_number_type, kind_or_int64, ruled}
+use Rattle.ql_rel.specs.Checked.{of_type, literal_of, take_kind, meet_type, is_number_type, kind_or_int64, require_type}
 
 -- the operators whose untyped side meets the kind of the other side: those of levels 5 and 4 but the shifts, and the comparisons
 abbrev pub shares_kind : BinOp → Bool
@@ -40,11 +45,6 @@ is_arithmetic _ = true
 abbrev pub link : BinOp → Typed → TypedLink
 link o part = roll-TypedLink (record { op = o; part = part })
 
--- the front of a chain: what is known of the whole, but for its tree, which is that of the first part; and the links behind that
-pub record Front : Type 0 where
-  pub first : Checked
-  pub links : List TypedLink
-
 -- a chain that has its first part alone
 abbrev pub front_of : Checked → Front
 front_of c = record { first = c; links = [] }
@@ -52,7 +52,7 @@ front_of c = record { first = c; links = [] }
 -- a front as one expression
 abbrev pub whole_of : Checked → List TypedLink → Checked
 whole_of c [] = c
-whole_of c (l ∷ links) = record { literal = None; untyped = c.untyped; type = c.type; tree = t.Chain c.tree (l ∷ links) }
+whole_of c (l ∷ links) = record { literal = None; untyped = c.untyped; typing = c.typing; tree = t.Chain c.tree (l ∷ links) }
 
 abbrev pub whole : Front → Checked
 whole f = whole_of f.first f.links
@@ -64,15 +64,15 @@ meet_behind type f =
     then then_with (take_kind (kind_or_int64 type) (whole f).literal (whole f).tree) (λ c. Ok (front_of c)) else Ok f
 
 -- a front with one link more, and what is then known of the whole
-abbrev pub longer : Front → BinOp → Typed → Bool → Typing → Front
-longer f o part untyped type = record {
-  first = record { literal = None; untyped = untyped; type = type; tree = f.first.tree };
+abbrev pub with_link : Front → BinOp → Typed → Bool → Typing → Front
+with_link f o part untyped type = record {
+  first = record { literal = None; untyped = untyped; typing = type; tree = f.first.tree };
   links = f.links ++ link o part ∷ [];
 }
 
 -- two sides whose kinds are settled, by the table of operators
 abbrev pub by_table : BinOp → Bool → Front → Checked → Answer Front
-by_table o untyped f part = then_with (ruled (operator_type o f.first.type part.type)) (λ type. Ok (longer f o part.tree untyped type))
+by_table o untyped f part = then_with (require_type (operator_type o f.first.typing part.typing)) (λ type. Ok (with_link f o part.tree untyped type))
 
 -- the operator is LIKE
 abbrev pub is_like : BinOp → Bool
@@ -80,15 +80,15 @@ is_like op.Like = true
 is_like _ = false
 
 -- the untyped one of two sides meets the kind of the other
-abbrev pub sharing : BinOp → Front → Checked → Answer Front
-sharing o f part = then_with (meet_behind part.type f) (λ g. then_with (meet_type f.first.type part) (λ met. by_table o false g met))
+abbrev pub meet_sides : BinOp → Front → Checked → Answer Front
+meet_sides o f part = then_with (meet_behind part.typing f) (λ g. then_with (meet_type f.first.typing part) (λ met. by_table o false g met))
 
 -- a link behind a front: LIKE is not built yet; two untyped sides stay untyped under an operator of levels 5 and 4, and are int64 under another
-abbrev pub linked : BinOp → Front → Checked → Answer Front
-linked o f part =
+abbrev pub add_link : BinOp → Front → Checked → Answer Front
+add_link o f part =
     if is_like o then refused LATER
     else (if f.first.untyped && part.untyped then by_table o (is_arithmetic o) f part
-    else (if shares_kind o then sharing o f part else by_table o false f part))
+    else (if shares_kind o then meet_sides o f part else by_table o false f part))
 
 -- an operator of a chain, and the answer for the part behind it
 pub record Step : Type 0 where
@@ -96,13 +96,13 @@ pub record Step : Type 0 where
   pub part : Answer Checked
 
 -- a front with one step more
-abbrev pub stepped : Front → Step → Answer Front
-stepped f s = then_with s.part (linked s.op f)
+abbrev pub add_step : Front → Step → Answer Front
+add_step f s = then_with s.part (add_link s.op f)
 
 -- a chain, from left to right
-abbrev pub chained : Front → List Step → Answer Front
-chained f [] = Ok f
-chained f (s ∷ steps) = then_with (stepped f s) (λ g. chained g steps)
+abbrev pub add_steps : Front → List Step → Answer Front
+add_steps f [] = Ok f
+add_steps f (s ∷ steps) = then_with (add_step f s) (λ g. add_steps g steps)
 
 -- the last operator is a minus
 abbrev pub ends_with_minus : List UnOp → Bool
@@ -118,31 +118,31 @@ but_last (o ∷ []) = []
 but_last (o ∷ p ∷ ops) = o ∷ but_last (p ∷ ops)
 
 -- operators before a part, by the table of operators; an untyped part stays untyped
-abbrev pub signed : List UnOp → Checked → Answer Checked
-signed ops c = then_with (ruled (prefixed_type ops c.type)) (λ type. Ok (record { literal = None; untyped = c.untyped; type = type; tree = t.Unary ops c.tree }))
+abbrev pub ops_by_table : List UnOp → Checked → Answer Checked
+ops_by_table ops c = then_with (require_type (prefixed_type ops c.typing)) (λ type. Ok (record { literal = None; untyped = c.untyped; typing = type; tree = t.Unary ops c.tree }))
 
 -- operators, or none, before a part whose literal, if it is one, has its minus
 abbrev pub under : List UnOp → Checked → Answer Checked
 under [] c = Ok c
-under (o ∷ ops) c = signed (o ∷ ops) c
+under (o ∷ ops) c = ops_by_table (o ∷ ops) c
 
 -- operators before a part: a minus directly before a literal belongs to it
-abbrev pub prefixed_by : List UnOp → Option Literal → Checked → Answer Checked
-prefixed_by ops None c = under ops c
-prefixed_by ops (Some l) c =
+abbrev pub apply_ops_by : List UnOp → Option Literal → Checked → Answer Checked
+apply_ops_by ops None c = under ops c
+apply_ops_by ops (Some l) c =
     if ends_with_minus ops && not l.minus then under (but_last ops) (literal_of (record { minus = true; size = l.size })) else under ops c
 
-abbrev pub prefixed : List UnOp → Checked → Answer Checked
-prefixed ops c = prefixed_by ops c.literal c
+abbrev pub apply_ops : List UnOp → Checked → Answer Checked
+apply_ops ops c = apply_ops_by ops c.literal c
 
 -- the kind of the first part that has one
 abbrev pub kind_before : Bool → Typing → Typing → Typing
-kind_before false (of_kind kind) more = of_kind kind
+kind_before false (OfKind kind) more = OfKind kind
 kind_before _ _ more = more
 
 abbrev pub first_kind : List Checked → Typing
-first_kind [] = only_null
-first_kind (c ∷ parts) = kind_before c.untyped c.type (first_kind parts)
+first_kind [] = OnlyNull
+first_kind (c ∷ parts) = kind_before c.untyped c.typing (first_kind parts)
 
 -- each part meets the type
 abbrev pub meet_each : Typing → List Checked → Answer (List Checked)
@@ -150,22 +150,22 @@ meet_each type parts = all_of (map (meet_type type) parts)
 
 -- the types and the trees of parts
 abbrev pub types : List Checked → List Typing
-types parts = map (λ c. c.type) parts
+types parts = map (λ c. c.typing) parts
 
 abbrev pub trees : List Checked → List Typed
 trees parts = map (λ c. c.tree) parts
 
 -- a truth, or with NOT its opposite
 abbrev pub truth : Bool → Typed → Checked
-truth false tree = known (of_kind k.Bool) tree
-truth true tree = known (of_kind k.Bool) (t.Unary (un.Not ∷ []) tree)
+truth false tree = of_type (OfKind k.Bool) tree
+truth true tree = of_type (OfKind k.Bool) (t.Unary (un.Not ∷ []) tree)
 
 -- `a IN (x, y)`: all parts have one kind
 abbrev pub in_list : Bool → Checked → List Checked → Answer Checked
 in_list negated part list =
     let type = first_kind (part ∷ list) in
     then_with (meet_type type part) (λ a. then_with (meet_each type list) (λ xs.
-    then_with (ruled (truth_of (meet_all a.type (types xs)))) (λ _. Ok (truth negated (t.IsIn a.tree (trees xs))))))
+    then_with (require_type (truth_of (meet_all a.typing (types xs)))) (λ _. Ok (truth negated (t.IsIn a.tree (trees xs))))))
 
 -- an operator between two resolved parts
 abbrev pub pair : Typed → BinOp → Typed → Typed
@@ -180,7 +180,7 @@ abbrev pub between : Bool → Checked → Checked → Checked → Answer Checked
 between negated part low high =
     let type = first_kind (part ∷ low ∷ high ∷ []) in
     then_with (meet_type type part) (λ a. then_with (meet_type type low) (λ x. then_with (meet_type type high) (λ y.
-    then_with (ruled (truth_of (among (λ kind. not (is_truth kind)) (meet_all a.type (x.type ∷ y.type ∷ []))))) (λ _. Ok (truth negated (between_tree a.tree x.tree y.tree))))))
+    then_with (require_type (truth_of (among (λ kind. not (is_truth kind)) (meet_all a.typing (x.typing ∷ y.typing ∷ []))))) (λ _. Ok (truth negated (between_tree a.tree x.tree y.tree))))))
 
 -- `a IS NULL`
 abbrev pub null_test : Bool → Checked → Checked

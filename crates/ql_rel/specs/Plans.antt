@@ -19,13 +19,21 @@ use Rattle.ql_syntax.specs.declared.syntax.SetSource.{SetSource, out-SetSource}
 use Rattle.ql_syntax.specs.declared.typed.Typed.{Typed}
 use Rattle.ql_syntax.specs.declared.typed.Typed.TheVariants as t
 use Rattle.ql_value.specs.Kinds.{is_integer, is_truth}
-use Rattle.ql_syntax.specs.Typing.{Typing, of_kind, among}
+use Rattle.ql_syntax.specs.declared.typing.Typing.{Typing}
+use Rattle.ql_syntax.specs.declared.typing.Typing.TheVariants.{OfKind}
+use Rattle.ql_syntax.specs.Typing.{among}
+use Rattle.ql_rel.specs.declared.scope.Slot.{Slot}
+use Rattle.ql_rel.specs.declared.scope.Scope.{Scope}
+use Rattle.ql_rel.specs.declared.select.Shown.{Shown}
+use Rattle.ql_rel.specs.declared.select.Source.{Source}
+use Rattle.ql_rel.specs.declared.select.Output.{Output}
+use Rattle.ql_rel.specs.declared.select.Limits.{Limits}
 use Rattle.ql_rel.specs.declared.plan.Plan.{Plan}
 use Rattle.ql_rel.specs.declared.schema.Schema.{Schema}
 use Rattle.ql_rel.specs.declared.schema.TableSchema.{TableSchema}
 use Rattle.ql_rel.specs.Answers.{Answer, refused, refused_at, then_with, all_of}
-use Rattle.ql_rel.specs.Scopes.{Slot, Scope, is_called, written}
-use Rattle.ql_rel.specs.Checked.{ruled}
+use Rattle.ql_rel.specs.Scopes.{is_called, written}
+use Rattle.ql_rel.specs.Checked.{require_type}
 use Rattle.ql_rel.specs.Types.{Ref, plain_name, checked}
 use Rattle.ql_rel.specs.Aggregates.{any_aggregate}
 
@@ -40,11 +48,11 @@ is_metadata name = bytes_eq name (codes "__Table") || bytes_eq name (codes "__Co
 
 -- a place for each column of a record set
 abbrev pub column_slots : List ℕ → List ColumnDef → List Slot
-column_slots set columns = map (λ c. record { set = Some set; column = Some c.name; type = of_kind c.kind }) columns
+column_slots set columns = map (λ c. record { set = Some set; column = Some c.name; typing = OfKind c.kind }) columns
 
 -- the places of a record set: its id, then its columns
 abbrev pub set_slots : List ℕ → List ColumnDef → List Slot
-set_slots set columns = record { set = Some set; column = None; type = of_kind k.Int64 } ∷ column_slots set columns
+set_slots set columns = record { set = Some set; column = None; typing = OfKind k.Int64 } ∷ column_slots set columns
 
 -- some record set has the name
 abbrev pub is_taken : List ℕ → List Slot → Bool
@@ -89,26 +97,20 @@ abbrev pub row_scope : List Slot → Scope
 row_scope slots = record { seen = slots; fields = []; width = length slots }
 
 -- an expression without aggregate, whose kind passes a test
-abbrev pub tested : (Kind → Bool) → Scope → Expr → Answer Typed
-tested test scope e = then_with (checked scope false e) (λ c. then_with (ruled (among test c.type)) (λ _. Ok c.tree))
+abbrev pub resolve_among : (Kind → Bool) → Scope → Expr → Answer Typed
+resolve_among test scope e = then_with (checked scope false e) (λ c. then_with (require_type (among test c.typing)) (λ _. Ok c.tree))
 
 -- the same, where it stands
-abbrev pub tested_if : (Kind → Bool) → Scope → Option Expr → Answer (Option Typed)
-tested_if test scope None = Ok None
-tested_if test scope (Some e) = then_with (tested test scope e) (λ tree. Ok (Some tree))
+abbrev pub resolve_if : (Kind → Bool) → Scope → Option Expr → Answer (Option Typed)
+resolve_if test scope None = Ok None
+resolve_if test scope (Some e) = then_with (resolve_among test scope e) (λ tree. Ok (Some tree))
 
 -- an expression without aggregate, of any type
-abbrev pub resolved_one : Scope → Expr → Answer Typed
-resolved_one scope e = then_with (checked scope false e) (λ c. Ok c.tree)
+abbrev pub resolve : Scope → Expr → Answer Typed
+resolve scope e = then_with (checked scope false e) (λ c. Ok c.tree)
 
-abbrev pub resolved : Scope → List Expr → Answer (List Typed)
-resolved scope exprs = all_of (map (resolved_one scope) exprs)
-
--- what a SELECT shows in one column
-pub record Shown : Type 0 where
-  pub name : List ℕ
-  pub type : Typing
-  pub tree : Typed
+abbrev pub resolve_each : Scope → List Expr → Answer (List Typed)
+resolve_each scope exprs = all_of (map (resolve scope) exprs)
 
 -- the name of a field: that behind AS, else that of the column which it is, else none
 abbrev pub field_name : Option (List ℕ) → Option Ref → List ℕ
@@ -118,7 +120,7 @@ field_name None None = []
 
 -- a field
 abbrev pub shown_field : Scope → Option (List ℕ) → Expr → Answer Shown
-shown_field scope alias e = then_with (checked scope true e) (λ c. Ok (record { name = field_name alias (plain_name e); type = c.type; tree = c.tree }))
+shown_field scope alias e = then_with (checked scope true e) (λ c. Ok (record { name = field_name alias (plain_name e); typing = c.typing; tree = c.tree }))
 
 -- the name of a column of `*`: with that of its set, where several sets have one
 abbrev pub star_name : Bool → Option (List ℕ) → List ℕ → List ℕ
@@ -128,7 +130,7 @@ star_name false set column = column
 -- a field of `*`, for a place that is a column
 abbrev pub star_field : Bool → ℕ → Slot → Option (List ℕ) → List Shown
 star_field several at slot None = []
-star_field several at slot (Some column) = record { name = star_name several slot.set column; type = slot.type; tree = t.Place at } ∷ []
+star_field several at slot (Some column) = record { name = star_name several slot.set column; typing = slot.typing; tree = t.Place at } ∷ []
 
 -- the fields of `*`; the first slot has this number
 abbrev pub star_fields : Bool → ℕ → List Slot → List Shown
@@ -172,7 +174,7 @@ place_name [] = None
 place_name (b ∷ name) = Some (b ∷ name)
 
 abbrev pub field_slot : Shown → Slot
-field_slot x = record { set = None; column = place_name x.name; type = x.type }
+field_slot x = record { set = None; column = place_name x.name; typing = x.typing }
 
 abbrev pub field_slots : List Shown → List Slot
 field_slots fields = map field_slot fields
@@ -186,45 +188,28 @@ abbrev pub is_some_list : {A : Type 0} → List A → Bool
 is_some_list [] = false
 is_some_list (x ∷ xs) = true
 
--- what stands before the fields of a SELECT: the row, the condition of WHERE, and GROUP BY
-pub record Source : Type 0 where
-  pub row : Scope
-  pub filter : Option Typed
-  pub groups : List Typed
-
 -- FROM, join, WHERE and GROUP BY
 abbrev pub source_of : Schema → Select → Answer Source
 source_of schema select =
     then_with (add_sets schema [] (out-Select select).sets) (λ slots.
     then_with (without_join (out-Select select).join) (λ _.
     let row = row_scope slots in
-    then_with (tested_if is_truth row (out-Select select).filter) (λ filter.
-    then_with (resolved row (out-Select select).groups) (λ groups.
+    then_with (resolve_if is_truth row (out-Select select).filter) (λ filter.
+    then_with (resolve_each row (out-Select select).groups) (λ groups.
     Ok (record { row = row; filter = filter; groups = groups })))))
-
--- what a SELECT shows, whether there is grouping, and by what it is ordered
-pub record Output : Type 0 where
-  pub fields : List Shown
-  pub grouped : Bool
-  pub keys : List Typed
 
 -- the fields, then ORDER BY; there is grouping where GROUP BY stands or a field has an aggregate
 abbrev pub output_of : Scope → Bool → Select → Answer Output
 output_of row grouped_by select =
     then_with (shown row (out-Select select).fields) (λ fields.
     let grouped = grouped_by || any_shown fields in
-    then_with (resolved (key_scope ((out-Select select).distinct || grouped) row fields) (out-Select select).keys) (λ keys.
+    then_with (resolve_each (key_scope ((out-Select select).distinct || grouped) row fields) (out-Select select).keys) (λ keys.
     Ok (record { fields = fields; grouped = grouped; keys = keys })))
-
--- LIMIT, then OFFSET; they see no column
-pub record Limits : Type 0 where
-  pub limit : Option Typed
-  pub offset : Option Typed
 
 abbrev pub limits_of : Select → Answer Limits
 limits_of select =
-    then_with (tested_if is_integer (row_scope []) (out-Select select).limit) (λ limit.
-    then_with (tested_if is_integer (row_scope []) (out-Select select).offset) (λ offset.
+    then_with (resolve_if is_integer (row_scope []) (out-Select select).limit) (λ limit.
+    then_with (resolve_if is_integer (row_scope []) (out-Select select).offset) (λ offset.
     Ok (record { limit = limit; offset = offset })))
 
 -- the parts of a plan together

@@ -2,20 +2,11 @@
 use Rattle.std.specs.Prelude.{ℕ, suc, Bool, true, false, ◌&&◌, if◌then◌else◌, List, [], ◌∷◌, ◌++◌, Option, Some, None, Ok}
 use Rattle.std.specs.Str.{bytes_eq}
 use Rattle.ql_value.specs.declared.refusal.TheConstants.{NO_COLUMN, AMBIGUOUS}
-use Rattle.ql_syntax.specs.Typing.{Typing}
+use Rattle.ql_syntax.specs.declared.typing.Typing.{Typing}
+use Rattle.ql_rel.specs.declared.scope.Slot.{Slot}
+use Rattle.ql_rel.specs.declared.scope.Scope.{Scope}
+use Rattle.ql_rel.specs.declared.scope.Found.{Found}
 use Rattle.ql_rel.specs.Answers.{Answer, refused_at}
-
--- a place of a row: the name of its record set, that of its column, which an id has not, and the type of its values
-pub record Slot : Type 0 where
-  pub set : Option (List ℕ)
-  pub column : Option (List ℕ)
-  pub type : Typing
-
--- what an expression sees: the places of the source row; the fields of a SELECT, which names are looked for among first; and the number of places before the fields
-pub record Scope : Type 0 where
-  pub seen : List Slot
-  pub fields : List Slot
-  pub width : ℕ
 
 -- it has this name
 abbrev pub is_called : Option (List ℕ) → List ℕ → Bool
@@ -37,16 +28,11 @@ abbrev pub is_of_column : Option (List ℕ) → Slot → Bool
 is_of_column None s = is_nameless s.column
 is_of_column (Some column) s = is_called s.column column
 
--- a place that a name may mean, by its number
-pub record Found : Type 0 where
-  pub at : ℕ
-  pub type : Typing
-
 -- the places that a name may mean; the first slot has this number
 abbrev pub found : Option (List ℕ) → Option (List ℕ) → ℕ → List Slot → List Found
 found set column at [] = []
 found set column at (s ∷ slots) =
-    if is_of_set set s && is_of_column column s then record { at = at; type = s.type } ∷ found set column (suc at) slots
+    if is_of_set set s && is_of_column column s then record { at = at; typing = s.typing } ∷ found set column (suc at) slots
     else found set column (suc at) slots
 
 -- the one place of them: 2 where there is none, 3 where there are several

@@ -16,11 +16,14 @@ use Rattle.ql_syntax.specs.declared.syntax.Link.{Link}
 use Rattle.ql_syntax.specs.declared.syntax.Select.{Select}
 use Rattle.ql_syntax.specs.declared.syntax.SetSource.{SetSource}
 use Rattle.ql_syntax.specs.declared.typed.Typed.TheVariants as t
-use Rattle.ql_syntax.specs.Typing.{only_null, of_kind}
+use Rattle.ql_syntax.specs.declared.typing.Typing.TheVariants.{OnlyNull, OfKind}
+use Rattle.ql_rel.specs.declared.checked.Checked.{Checked}
+use Rattle.ql_rel.specs.declared.scope.Scope.{Scope}
+use Rattle.ql_rel.specs.declared.scope.Found.{Found}
 use Rattle.ql_rel.specs.Answers.{Answer, refused, then_with, all_of}
-use Rattle.ql_rel.specs.Scopes.{Scope, Found, column_place, id_place, id_place_of}
-use Rattle.ql_rel.specs.Checked.{Checked, known, literal_of, bracketed}
-use Rattle.ql_rel.specs.Operands.{Step, front_of, whole, chained, prefixed, in_list, between, null_test}
+use Rattle.ql_rel.specs.Scopes.{column_place, id_place, id_place_of}
+use Rattle.ql_rel.specs.Checked.{of_type, literal_of, in_brackets}
+use Rattle.ql_rel.specs.Operands.{Step, front_of, whole, add_steps, apply_ops, in_list, between, null_test}
 use Rattle.ql_rel.specs.Calls.{convert_to, row_call, is_aggregate, allowed_call}
 
 -- a plain name, `c` or `T.c`
@@ -47,12 +50,12 @@ abbrev pub plain_name : Expr → Option Ref
 plain_name e = ref_of (out-Expr e)
 
 -- an expression that is no plain name
-abbrev pub judged : (Bool → Answer Checked) → Judged
-judged answer = record { ref = None; answer = answer }
+abbrev pub of_answer : (Bool → Answer Checked) → Judged
+of_answer answer = record { ref = None; answer = answer }
 
 -- a part with its kind, at a place of the row
 abbrev pub at_place : Answer Found → Answer Checked
-at_place place = then_with place (λ p. Ok (known p.type (t.Place p.at)))
+at_place place = then_with place (λ p. Ok (of_type p.typing (t.Place p.at)))
 
 -- the answers for parts
 abbrev pub answers : Bool → List Judged → Answer (List Checked)
@@ -99,25 +102,25 @@ call scope aggregates function parts =
 
 -- a string
 abbrev pub text_of : List ℕ → Checked
-text_of bytes = known (of_kind k.Text) (t.Constant (v.Text bytes))
+text_of bytes = of_type (OfKind k.Text) (t.Constant (v.Text bytes))
 
 -- an expression of one layer, from the answers for its parts
 abbrev pub expr_step : Scope → Expr-F Judged (Unit {0}) (Unit {0}) (Unit {0}) (Unit {0}) JudgedLink (Unit {0}) → Judged
-expr_step scope (Expr-F.Chain first rest) = judged (λ a. then_with (first.answer a) (λ c. then_with (chained (front_of c) (steps a rest)) (λ g. Ok (whole g))))
-expr_step scope (Expr-F.Unary ops part) = judged (λ a. then_with (part.answer a) (prefixed ops))
-expr_step scope (Expr-F.Number n) = judged (λ a. Ok (literal_of (record { minus = false; size = n })))
-expr_step scope (Expr-F.Text bytes) = judged (λ a. Ok (text_of bytes))
-expr_step scope (Expr-F.Truth truth) = judged (λ a. Ok (known (of_kind k.Bool) (t.Constant (v.Bool truth))))
-expr_step scope Expr-F.Null = judged (λ a. Ok (known only_null (t.Constant v.Null)))
+expr_step scope (Expr-F.Chain first rest) = of_answer (λ a. then_with (first.answer a) (λ c. then_with (add_steps (front_of c) (steps a rest)) (λ g. Ok (whole g))))
+expr_step scope (Expr-F.Unary ops part) = of_answer (λ a. then_with (part.answer a) (apply_ops ops))
+expr_step scope (Expr-F.Number n) = of_answer (λ a. Ok (literal_of (record { minus = false; size = n })))
+expr_step scope (Expr-F.Text bytes) = of_answer (λ a. Ok (text_of bytes))
+expr_step scope (Expr-F.Truth truth) = of_answer (λ a. Ok (of_type (OfKind k.Bool) (t.Constant (v.Bool truth))))
+expr_step scope Expr-F.Null = of_answer (λ a. Ok (of_type OnlyNull (t.Constant v.Null)))
 expr_step scope (Expr-F.Column set column) = record { ref = Some (record { set = set; column = column }); answer = λ a. at_place (column_place scope set column) }
-expr_step scope (Expr-F.Paren part) = judged (λ a. then_with (part.answer a) (λ c. Ok (bracketed c)))
-expr_step scope (Expr-F.Call function star parts) = judged (λ a. call scope a function parts)
-expr_step scope (Expr-F.Convert kind part) = judged (λ a. then_with (part.answer a) (convert_to kind))
-expr_step scope (Expr-F.IsIn negated part list) = judged (λ a. then_with (part.answer a) (λ c. then_with (answers a list) (in_list negated c)))
-expr_step scope (Expr-F.IsInSelect negated part query) = judged (λ a. then_with (part.answer a) (λ c. refused LATER))
+expr_step scope (Expr-F.Paren part) = of_answer (λ a. then_with (part.answer a) (λ c. Ok (in_brackets c)))
+expr_step scope (Expr-F.Call function star parts) = of_answer (λ a. call scope a function parts)
+expr_step scope (Expr-F.Convert kind part) = of_answer (λ a. then_with (part.answer a) (convert_to kind))
+expr_step scope (Expr-F.IsIn negated part list) = of_answer (λ a. then_with (part.answer a) (λ c. then_with (answers a list) (in_list negated c)))
+expr_step scope (Expr-F.IsInSelect negated part query) = of_answer (λ a. then_with (part.answer a) (λ c. refused LATER))
 expr_step scope (Expr-F.IsBetween negated part low high) =
-    judged (λ a. then_with (part.answer a) (λ c. then_with (low.answer a) (λ x. then_with (high.answer a) (between negated c x))))
-expr_step scope (Expr-F.IsNull negated part) = judged (λ a. then_with (part.answer a) (λ c. Ok (null_test negated c)))
+    of_answer (λ a. then_with (part.answer a) (λ c. then_with (low.answer a) (λ x. then_with (high.answer a) (between negated c x))))
+expr_step scope (Expr-F.IsNull negated part) = of_answer (λ a. then_with (part.answer a) (λ c. Ok (null_test negated c)))
 
 -- an operator of a chain and the part behind it
 abbrev pub link_step : Link-F Judged (Unit {0}) (Unit {0}) (Unit {0}) (Unit {0}) JudgedLink (Unit {0}) → JudgedLink

@@ -1,3 +1,5 @@
+//! A database as a value.
+
 use crate::schema::Indexes;
 use ql_edge::{Items, Name};
 use ql_syntax::ColumnDefs;

@@ -1,3 +1,5 @@
+//! The plan of a statement.
+
 use ql_edge::{Names0, Numbers};
 use ql_syntax::{OptTypeds, Typed, TypedRows, Typeds};
 

@@ -1,3 +1,5 @@
+//! The tables of a database without their rows.
+
 use ql_edge::{Items, Name};
 use ql_syntax::{ColumnDefs, Item};
 

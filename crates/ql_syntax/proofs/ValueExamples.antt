@@ -11,7 +11,8 @@ use Rattle.ql_syntax.specs.declared.typed.Typed.TheVariants as t
 use Rattle.ql_syntax.specs.declared.typed.Typed.TheOpen.{Typed-F}
 use Rattle.ql_syntax.specs.declared.typed.Typed.TheFolds.{fold-roll-Typed}
 use Rattle.ql_syntax.specs.Values.{Outcome, Step, gives, refuses, divide, range, negative_count, chained, linked, prefixed, narrow_to, convert_to, called, is_in, contains, value_at, value_step, link_step}
-use Rattle.ql_syntax.specs.Typing.{only_null, of_kind, ill, operator_type, chain_type, call_type}
+use Rattle.ql_syntax.specs.declared.typing.Typing.TheVariants.{OnlyNull, OfKind, Ill}
+use Rattle.ql_syntax.specs.Typing.{operator_type, chain_type, call_type}
 
 abbrev int : ℤ → Value
 int z = v.Int k.Int64 z
@@ -104,14 +105,14 @@ second_place =
     ap (value_at row) (sym (t.rolls-Place 1)) ∙ fold-roll-Typed Outcome Step (value_step row) link_step (Typed-F.Place 1)
 
 -- `a == b == true` compares a truth, `a + 1` wants one kind, and `NULL` meets every kind
-truth_compared : chain_type (of_kind k.Int8) (record { op = op.Eq; part = of_kind k.Int8 } ∷ record { op = op.Eq; part = of_kind k.Bool } ∷ []) ≡ of_kind k.Bool
+truth_compared : chain_type (OfKind k.Int8) (record { op = op.Eq; part = OfKind k.Int8 } ∷ record { op = op.Eq; part = OfKind k.Bool } ∷ []) ≡ OfKind k.Bool
 truth_compared = refl
 
-two_kinds : operator_type op.Add (of_kind k.Int8) (of_kind k.Int64) ≡ ill
+two_kinds : operator_type op.Add (OfKind k.Int8) (OfKind k.Int64) ≡ Ill
 two_kinds = refl
 
-any_count : operator_type op.Shl (of_kind k.Int8) (of_kind k.Uint64) ≡ of_kind k.Int8
+any_count : operator_type op.Shl (OfKind k.Int8) (OfKind k.Uint64) ≡ OfKind k.Int8
 any_count = refl
 
-null_meets : call_type f.Coalesce (only_null ∷ of_kind k.Text ∷ []) ≡ of_kind k.Text
+null_meets : call_type f.Coalesce (OnlyNull ∷ OfKind k.Text ∷ []) ≡ OfKind k.Text
 null_meets = refl

@@ -11,28 +11,24 @@ use Rattle.ql_value.specs.declared.value.Value.{Value}
 use Rattle.ql_value.specs.declared.value.Value.TheVariants as v
 use Rattle.ql_syntax.specs.declared.syntax.Function.{Function}
 use Rattle.ql_syntax.specs.declared.syntax.Function.TheVariants as f
+use Rattle.ql_syntax.specs.declared.typing.Typing.{Typing}
+use Rattle.ql_syntax.specs.declared.typing.Typing.TheVariants.{OnlyNull, OfKind, Ill}
 use Rattle.ql_syntax.specs.declared.typed.Typed.{Typed}
 use Rattle.ql_syntax.specs.declared.typed.Typed.TheOpen.{Typed-F, TypedLink-F}
 use Rattle.ql_syntax.specs.declared.typed.Typed.TheFolds.{fold-Typed}
 use Rattle.ql_value.specs.Kinds.{is_integer, is_truth, is_text, is_byte_list, same_kind}
 
--- what is known of the values of an expression: they are all NULL, NULL or of a kind, or it has no type
-pub data Typing : Type 0 where
-  only_null : Typing
-  of_kind : Kind → Typing
-  ill : Typing
-
 -- it has a type
 abbrev pub IsTyped : Typing → Type 0
-IsTyped only_null = Unit {0}
-IsTyped (of_kind _) = Unit {0}
-IsTyped ill = ⊥
+IsTyped OnlyNull = Unit {0}
+IsTyped (OfKind _) = Unit {0}
+IsTyped Ill = ⊥
 
 -- the value is of the type
 abbrev pub HasType : Typing → Value → Type 0
-HasType only_null x = x ≡ v.Null
-HasType (of_kind kind) x = HasKind kind x
-HasType ill x = ⊥
+HasType OnlyNull x = x ≡ v.Null
+HasType (OfKind kind) x = HasKind kind x
+HasType Ill x = ⊥
 
 -- each value of the row is of the type at its place
 abbrev pub FitsRow : List Typing → List Value → Type 0
@@ -42,22 +38,22 @@ FitsRow _ _ = ⊥
 
 -- the type, where its kind passes the test; NULL passes every test
 abbrev pub among : (Kind → Bool) → Typing → Typing
-among test only_null = only_null
-among test (of_kind kind) = if test kind then of_kind kind else ill
-among test ill = ill
+among test OnlyNull = OnlyNull
+among test (OfKind kind) = if test kind then OfKind kind else Ill
+among test Ill = Ill
 
 -- the second type, where there is a first one
 abbrev pub given_type : Typing → Typing → Typing
-given_type ill t = ill
+given_type Ill t = Ill
 given_type _ t = t
 
 -- the one type of two parts: NULL meets every kind
 abbrev pub meet : Typing → Typing → Typing
-meet ill _ = ill
-meet _ ill = ill
-meet only_null t = t
-meet s only_null = s
-meet (of_kind a) (of_kind b) = if same_kind a b then of_kind a else ill
+meet Ill _ = Ill
+meet _ Ill = Ill
+meet OnlyNull t = t
+meet s OnlyNull = s
+meet (OfKind a) (OfKind b) = if same_kind a b then OfKind a else Ill
 
 -- the one type of a part and further parts
 abbrev pub meet_all : Typing → List Typing → Typing
@@ -66,7 +62,7 @@ meet_all t (u ∷ types) = meet_all (meet t u) types
 
 -- a truth, where there is a type
 abbrev pub truth_of : Typing → Typing
-truth_of t = given_type t (of_kind k.Bool)
+truth_of t = given_type t (OfKind k.Bool)
 
 -- the operands and the result of an operator between two parts; LIKE has none yet
 abbrev pub operator_type : BinOp → Typing → Typing → Typing
@@ -81,7 +77,7 @@ operator_type op.Gt s t = truth_of (among (λ kind. not (is_truth kind)) (meet s
 operator_type op.Ge s t = truth_of (among (λ kind. not (is_truth kind)) (meet s t))
 operator_type op.Both s t = truth_of (among is_truth (meet s t))
 operator_type op.Either s t = truth_of (among is_truth (meet s t))
-operator_type op.Like s t = ill
+operator_type op.Like s t = Ill
 operator_type _ s t = among is_integer (meet s t)
 
 -- an operator of a chain, and the type of the part behind it
@@ -110,24 +106,24 @@ converts to from = is_truth to && is_truth from || is_integer to && is_integer f
 
 -- the call of a function
 abbrev pub call_type : Function → List Typing → Typing
-call_type f.Len (t ∷ []) = given_type (among is_byte_list t) (of_kind k.Int64)
+call_type f.Len (t ∷ []) = given_type (among is_byte_list t) (OfKind k.Int64)
 call_type f.Contains (s ∷ t ∷ []) = truth_of (among is_text (meet s t))
 call_type f.HasPrefix (s ∷ t ∷ []) = truth_of (among is_text (meet s t))
 call_type f.HasSuffix (s ∷ t ∷ []) = truth_of (among is_text (meet s t))
 call_type f.Coalesce (t ∷ types) = meet_all t types
-call_type _ _ = ill
+call_type _ _ = Ill
 
 -- a constant is NULL or a value of its kind
 abbrev pub constant_type : Value → Typing
-constant_type v.Null = only_null
-constant_type (v.Bool _) = of_kind k.Bool
-constant_type (v.Int kind z) = if is_integer kind && has_number kind z then of_kind kind else ill
-constant_type (v.Text _) = of_kind k.Text
-constant_type (v.Blob _) = of_kind k.Blob
+constant_type v.Null = OnlyNull
+constant_type (v.Bool _) = OfKind k.Bool
+constant_type (v.Int kind z) = if is_integer kind && has_number kind z then OfKind kind else Ill
+constant_type (v.Text _) = OfKind k.Text
+constant_type (v.Blob _) = OfKind k.Blob
 
 -- the type at a place of the row
 abbrev pub place_type : List Typing → ℕ → Typing
-place_type [] at = ill
+place_type [] at = Ill
 place_type (t ∷ types) zero = t
 place_type (t ∷ types) (suc at) = place_type types at
 
@@ -137,10 +133,10 @@ type_step types (Typed-F.Constant x) = constant_type x
 type_step types (Typed-F.Place at) = place_type types at
 type_step types (Typed-F.Chain first rest) = chain_type first rest
 type_step types (Typed-F.Unary ops part) = prefixed_type ops part
-type_step types (Typed-F.Convert kind part) = given_type (among (converts kind) part) (of_kind kind)
-type_step types (Typed-F.Narrow kind part) = given_type (among is_integer part) (among is_integer (of_kind kind))
+type_step types (Typed-F.Convert kind part) = given_type (among (converts kind) part) (OfKind kind)
+type_step types (Typed-F.Narrow kind part) = given_type (among is_integer part) (among is_integer (OfKind kind))
 type_step types (Typed-F.Call function parts) = call_type function parts
-type_step types (Typed-F.Aggregate _ _ _) = ill
+type_step types (Typed-F.Aggregate _ _ _) = Ill
 type_step types (Typed-F.IsIn part list) = truth_of (meet_all part list)
 type_step types (Typed-F.IsNull part) = truth_of part
 

@@ -5,6 +5,7 @@ mod copy;
 mod statement;
 mod syntax;
 mod typed;
+mod typing;
 
 pub use copy::copy_expr;
 pub use statement::{
@@ -15,3 +16,4 @@ pub use syntax::{
     Side,
 };
 pub use typed::{OptTypeds, Typed, TypedLink, TypedLinks, TypedRows, Typeds};
+pub use typing::Typing;

@@ -5,4 +5,4 @@ use Rattle.ql_check.proofs.scope.search.Goals as goal
 pub slots-preserved : goal.slots-preserved
 slots-preserved c =
     let w = c.slots.invariant in
-    (_, c.looked_at-hit.ensures w.0 w.1, turn_place _ _ c.args.slots.now c.slots.slot-index c.slots.at c.in-Some.next c.slot-item.result c.slot-item.result w.0 _ c.slots-test.true c.slot-item.is c.in-Some.ensures.1 w.2)
+    (_, c.look_at-hit.ensures w.0 w.1, turn_place _ _ c.args.slots.now c.slots.slot-index c.slots.at c.in-Some.next c.slot-item.result c.slot-item.result w.0 _ c.slots-test.true c.slot-item.is c.in-Some.ensures.1 w.2)

@@ -1,8 +1,7 @@
-use Rattle.std.proofs.Common.{◌≡◌, map, drop}
+use Rattle.std.proofs.Common.{◌≡◌, drop}
 use Rattle.ql_rel.specs.Plans as spec
-use Rattle.ql_check.specs.Outputs.{plain_shown}
 use Rattle.ql_check.proofs.shown.any_aggregate.Given as goal
 
 -- none stands in the fields before
 abbrev pub invariant-fields : goal.invariant-fields
-invariant-fields l = spec.any_shown (map plain_shown (drop l.field-index l.fields)) ≡ spec.any_shown (map plain_shown l.fields)
+invariant-fields l = spec.any_shown (drop l.field-index l.fields) ≡ spec.any_shown l.fields

@@ -2,9 +2,7 @@
 use Rattle.std.proofs.Common.{◌≡◌, ◌<◌, subst, length, get_or}
 use Rattle.ql_syntax.specs.declared.syntax.Field.{out-Field}
 use Rattle.ql_rel.specs.Plans as spec
-use Rattle.ql_check.specs.Names.{plain_scope}
-use Rattle.ql_check.specs.Outputs.{plain_shown}
-use Rattle.ql_check.proofs.Turns.{turn_of}
+use Rattle.ql_check.proofs.Turns.{turn_same}
 use Rattle.ql_check.proofs.shown.shown_fields.Goals as goal
 
 pub fields-preserved : goal.fields-preserved
@@ -12,6 +10,6 @@ fields-preserved c =
     let same = c.as_slice-field-items.ensures in
     let at = c.fields.field-index in
     let x = c.field-item.result in
-    let scope = plain_scope c.args.scope.now in
-    turn_of (λ f. spec.shown_field scope (out-Field f).alias (out-Field f).expr) plain_shown c.args.fields.now at x x c.fields.shown c.push.new.self c.in_ok-shown_field.field-0 _
+    let scope = c.args.scope.now in
+    turn_same (λ f. spec.shown_field scope (out-Field f).alias (out-Field f).expr) c.args.fields.now at x x c.fields.shown c.push.new.self c.in_ok-shown_field.field-0 _
     (subst (λ l. at < length l) same c.fields-test.true) (subst (λ l. x ≡ get_or l at x) same c.field-item.is) c.in_ok-shown_field.ensures c.in_ok-push.ensures.ok c.fields.invariant

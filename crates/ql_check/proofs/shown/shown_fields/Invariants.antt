@@ -1,10 +1,8 @@
-use Rattle.std.proofs.Common.{◌≡◌, map, drop}
+use Rattle.std.proofs.Common.{◌≡◌, drop}
 use Rattle.ql_rel.specs.Plans as spec
-use Rattle.ql_check.specs.Names.{plain_scope}
-use Rattle.ql_check.specs.Outputs.{plain_shown}
 use Rattle.ql_check.proofs.Turns.{behind}
 use Rattle.ql_check.proofs.shown.shown_fields.Given as goal
 
 -- the fields so far, and those that are left
 abbrev pub invariant-fields : goal.invariant-fields
-invariant-fields l = behind (map plain_shown l.shown) (spec.shown_fields (plain_scope l.scope) (drop l.field-index l.fields)) ≡ spec.shown_fields (plain_scope l.scope) l.fields
+invariant-fields l = behind l.shown (spec.shown_fields l.scope (drop l.field-index l.fields)) ≡ spec.shown_fields l.scope l.fields

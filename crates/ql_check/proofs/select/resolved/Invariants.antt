@@ -1,9 +1,0 @@
-use Rattle.std.proofs.Common.{◌≡◌, drop}
-use Rattle.ql_rel.specs.Plans as spec
-use Rattle.ql_check.specs.Names.{plain_scope}
-use Rattle.ql_check.proofs.Turns.{behind}
-use Rattle.ql_check.proofs.select.resolved.Given as goal
-
--- the expressions so far, and those that are left
-abbrev pub invariant-exprs : goal.invariant-exprs
-invariant-exprs l = behind l.trees (spec.resolved (plain_scope l.scope) (drop l.expr-index l.exprs)) ≡ spec.resolved (plain_scope l.scope) l.exprs
