@@ -1,3 +1,5 @@
 pub mod Behind
+pub mod Entries
 pub mod Pieces
 pub mod Puts
+pub mod Stacked

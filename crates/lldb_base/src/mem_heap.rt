@@ -1,0 +1,193 @@
+//! A heap in memory.
+ghost use Rattle.std.specs.Prelude.{◌≡◌, ◌≤◌, ◌^◌, ◌<◌, [], length, map, replicate, None, Some, true, false, IfOk, OnErr, All, refl};
+ghost use Rattle.std.proofs.Common.{◌∙◌, ap, sym};
+ghost use Rattle.std.proofs.Props.{props};
+ghost use Rattle.std.proofs.lemmas.List.{length-replicate, length-map};
+ghost use Rattle.lldb_base.specs.Contents.{AreContents, content_of};
+
+use crate::maps::{Maps, copy_map, put_entry};
+use crate::texts::Texts;
+use crate::{Heap, Trouble};
+use ql_edge::{Bytes, DeviceFault, NoMemory, Shows};
+use std::alloc::Global;
+use std::collections::BTreeMap;
+
+/// Contents in memory. It answers neither `Failed` nor `Full`, and `Damaged` exactly where a handle is not live.
+#[derive(Drop)]
+pub struct MemHeap {
+    alloc: Global,
+    live: BTreeMap<u64, Bytes>,
+    saved: Maps,
+    ready: bool,
+    reads: u64,
+    texts: Texts,
+    ghost contents: { AreContents live.entries } by { Prim.hlevel props },
+    ghost all_contents: { All AreContents saved } by { Prim.hlevel props },
+    ghost depth: { length saved ≤ 4294967295 },
+}
+
+impl MemHeap {
+    /// No handle is live. It takes no memory.
+    pub fn new(alloc: Global) -> MemHeap
+        ensures contents { ⟦<MemHeap as Heap>⟧.map_of result ≡ Some [] }
+        ensures saved { ⟦<MemHeap as Heap>⟧.saved result ≡ [] }
+        ensures saved_sizes { ⟦<MemHeap as Heap>⟧.saved_sizes result ≡ [] }
+        ensures limit { ⟦<MemHeap as Heap>⟧.limit_of result ≡ None }
+        ensures ready { ⟦<MemHeap as Heap>⟧.is_ready result ≡ true }
+        ensures sound { ⟦<MemHeap as Heap>⟧.is_sound result ≡ true }
+        ensures reads { ⟦<MemHeap as Heap>⟧.reads_of result ≡ 0 }
+        ensures told { ⟦<MemHeap as Shows>⟧.told result ≡ Some ([], []) }
+        ensures fixed { ⟦<MemHeap as Shows>⟧.fixed result ≡ [] }
+    {
+        MemHeap {
+            alloc,
+            live: BTreeMap::new(alloc),
+            saved: Maps::new(alloc),
+            ready: true,
+            reads: 0,
+            texts: Texts::new(alloc),
+        }
+    }
+}
+
+/// A handle that no content has: the one after the last, and 8 at first.
+fn next_handle(live: &BTreeMap<u64, Bytes>) -> Result<u64, NoMemory>
+    ensures range { IfOk result (λ handle. (8 ≤ handle) × (handle < 2 ^ 64)) }
+    ensures fresh { IfOk result (λ handle. content_of handle live.now.entries ≡ None) }
+    ensures first { IfOk result (λ handle. live.now.entries ≡ [] → handle ≡ 8) }
+{
+    match live.last_key_value() {
+        None => Ok(8),
+        Some((last, _)) => match last.checked_add(1) {
+            Some(next) => Ok(next.max(8)),
+            None => Err(NoMemory),
+        },
+    }
+}
+
+impl Shows for MemHeap {
+    ghost told = { λ h. ⟦<Texts as Shows>⟧.told h.texts };
+
+    ghost faults = { λ h. ⟦<Texts as Shows>⟧.faults h.texts };
+
+    ghost left = { λ h. ⟦<Texts as Shows>⟧.left h.texts };
+
+    ghost same = { λ x y. (y.live ≡ x.live) × (y.saved ≡ x.saved) × (y.ready ≡ x.ready) × (y.reads ≡ x.reads) };
+
+    ghost fixed = { λ _. [] };
+
+    ghost same_reflexive = { λ _. (refl, refl, refl, refl) };
+
+    ghost same_transitive = { λ x y z p q. (q.0 ∙ p.0, q.1 ∙ p.1, q.2 ∙ p.2, q.3 ∙ p.3) };
+
+    fn show(&mut self, piece: &[u8]) -> Result<u64, DeviceFault> {
+        self.texts.show(piece)
+    }
+
+    fn warn(&mut self, piece: &[u8]) -> Result<u64, DeviceFault> {
+        self.texts.warn(piece)
+    }
+}
+
+impl Heap for MemHeap {
+    ghost map_of = { λ h. Some h.live.entries };
+
+    ghost saved = { λ h. map Some h.saved };
+
+    ghost size_of = { λ _. 0 };
+
+    ghost saved_sizes = { λ h. replicate (length h.saved) 0 };
+
+    ghost limit_of = { λ _. None };
+
+    ghost most_free = { λ _. 0 };
+
+    ghost is_ready = { λ h. h.ready };
+
+    ghost is_sound = { λ _. true };
+
+    ghost reads_of = { λ h. h.reads };
+
+    fn ready(&self) -> bool {
+        self.ready
+    }
+
+    fn depth(&self) -> u32 {
+        self.saved.len() as u32
+    }
+
+    fn reads(&self) -> u64 {
+        self.reads
+    }
+
+    fn is_empty(&self) -> bool {
+        self.live.is_empty()
+    }
+
+    fn create(&mut self, content: &[u8]) -> Result<u64, Trouble> {
+        self.ready = false;
+        let handle = next_handle(&self.live)?;
+        let content = Bytes::from_slice(self.alloc, content)?;
+        put_entry(&mut self.live, handle, content)?;
+        self.ready = true;
+        Ok(handle)
+    }
+
+    fn read(&mut self, handle: u64, out: &mut Bytes) -> Result<(), Trouble> {
+        let Some(content) = self.live.get(&handle) else {
+            return Err(Trouble::Damaged);
+        };
+        *out = Bytes::from_slice(self.alloc, content.as_slice())?;
+        self.reads = self.reads.saturating_add(1);
+        Ok(())
+    }
+
+    fn replace(&mut self, handle: u64, content: &[u8]) -> Result<(), Trouble> {
+        self.ready = false;
+        if !self.live.contains_key(&handle) {
+            return Err(Trouble::Damaged);
+        }
+        let content = Bytes::from_slice(self.alloc, content)?;
+        put_entry(&mut self.live, handle, content)?;
+        self.ready = true;
+        Ok(())
+    }
+
+    fn remove(&mut self, handle: u64) -> Result<(), Trouble> {
+        self.ready = false;
+        match self.live.remove(&handle) {
+            Some(_) => {
+                self.ready = true;
+                Ok(())
+            }
+            None => Err(Trouble::Damaged),
+        }
+    }
+
+    fn begin_update(&mut self) -> Result<(), NoMemory> {
+        let copy = copy_map(self.alloc, &self.live)?;
+        self.saved.push(copy)?;
+        Ok(())
+    }
+
+    fn end_update(&mut self) -> Result<(), Trouble> {
+        match self.saved.pop() {
+            Some(_) => Ok(()),
+            None => Ok(()),
+        }
+    }
+
+    fn rollback(&mut self) {
+        self.ready = true;
+        match self.saved.pop() {
+            Some(map) => self.live = map,
+            None => {}
+        }
+    }
+
+    ghost contents = { λ h _. h.contents };
+
+    ghost sizes = { λ h. (length-replicate (length h.saved) 0 ∙ sym (length-map h.saved Some), λ _. refl) };
+
+    ghost same_heap = { λ x y same. record { map = ap (λ m. Some m.entries) same.0; saved = ap (map Some) same.1; size = refl; sizes = ap (λ s. replicate (length s) 0) same.1; limit = refl; free = refl; ready = same.2; sound = refl; reads = same.3 } };
+}
