@@ -13,7 +13,9 @@ use Rattle.ql_value.specs.Arith.{on_numbers}
 use Rattle.ql_value.proofs.KindLaws.{the_kind_laws}
 use Rattle.ql_value.specs.Kinds.{is_integer, is_truth, is_text}
 use Rattle.ql_syntax.specs.Values.{Outcome, gives, refuses, means_nothing, then_from, outcome_of, calculated, comparison, both, either, operated, decides, linked}
-use Rattle.ql_syntax.specs.Typing.{Typing, only_null, of_kind, ill, IsTyped, HasType, among, given_type, meet, truth_of, operator_type}
+use Rattle.ql_syntax.specs.declared.typing.Typing.{Typing}
+use Rattle.ql_syntax.specs.declared.typing.Typing.TheVariants.{OnlyNull, OfKind, Ill}
+use Rattle.ql_syntax.specs.Typing.{IsTyped, HasType, among, given_type, meet, truth_of, operator_type}
 use Rattle.ql_eval.proofs.TypeLemmas.{Passes, AreBoth, among_passes, among_typed, given_parts, null_has, meet_both, pair_typed, meet_typed}
 use Rattle.ql_eval.proofs.Sorts.{IsNumber, IsTruth, IsText, number_value, truth_value, text_value}
 
@@ -41,18 +43,18 @@ no_lack_numbers op.Shr kind a b = no_lack_if (int_lt b (pos 0)) fault.NegativeCo
 no_lack_numbers _ kind a b = λ e. cc
 
 -- what an outcome of kind is
-pub comes_of : (kind : Kind) (r : Result Value ValueFault) → r ≢ Err fault.NoMemory → IfOk r (HasKind kind) → Comes (of_kind kind) (outcome_of r)
+pub comes_of : (kind : Kind) (r : Result Value ValueFault) → r ≢ Err fault.NoMemory → IfOk r (HasKind kind) → Comes (OfKind kind) (outcome_of r)
 comes_of kind (Ok x) n h = h
 comes_of kind (Err fault.Divide) n h = tt
 comes_of kind (Err fault.Range) n h = tt
 comes_of kind (Err fault.NegativeCount) n h = tt
 comes_of kind (Err fault.NoMemory) n h = absurd (n refl)
 
-pub numbers_come : (o : BinOp) (kind : Kind) (a b : ℤ) → IfOk (on_numbers o kind a b) (HasKind kind) → Comes (of_kind kind) (outcome_of (on_numbers o kind a b))
+pub numbers_come : (o : BinOp) (kind : Kind) (a b : ℤ) → IfOk (on_numbers o kind a b) (HasKind kind) → Comes (OfKind kind) (outcome_of (on_numbers o kind a b))
 numbers_come o kind a b h = comes_of kind (on_numbers o kind a b) (no_lack_numbers o kind a b) h
 
 -- arithmetic on two numbers, either of which may be NULL
-pub calculated_numbers : (o : BinOp) (kind own : Kind) (x y : Value) → IsNumber x → IsNumber y → HasKind kind x → HasKind own y → Comes (of_kind kind) (calculated o x y)
+pub calculated_numbers : (o : BinOp) (kind own : Kind) (x y : Value) → IsNumber x → IsNumber y → HasKind kind x → HasKind own y → Comes (OfKind kind) (calculated o x y)
 calculated_numbers o kind own v.Null _ m n h g = tt
 calculated_numbers o kind own (v.Int i a) v.Null m n h g = tt
 calculated_numbers o kind own (v.Int i a) (v.Int j b) m n h g = comes_of kind (on_numbers o i a b) (no_lack_numbers o i a b) (the_kind_laws.arithmetic o kind own (v.Int i a) (v.Int j b) h g)
@@ -63,15 +65,15 @@ calculated_numbers o kind own (v.Bool _) y m n h g = absurd m
 calculated_numbers o kind own (v.Text _) y m n h g = absurd m
 calculated_numbers o kind own (v.Blob _) y m n h g = absurd m
 
-null_comes : (o : BinOp) (x y : Value) → x ≡ v.Null → Comes only_null (calculated o x y)
-null_comes o x y e = subst (λ z. Comes only_null (calculated o z y)) (sym e) refl
+null_comes : (o : BinOp) (x y : Value) → x ≡ v.Null → Comes OnlyNull (calculated o x y)
+null_comes o x y e = subst (λ z. Comes OnlyNull (calculated o z y)) (sym e) refl
 
 arithmetic_comes : (o : BinOp) (u : Typing) (x y : Value) → Passes is_integer u → AreBoth u x y → Comes u (calculated o x y)
-arithmetic_comes o only_null x y p b = null_comes o x y b.left
-arithmetic_comes o (of_kind kind) x y p b = calculated_numbers o kind kind x y (number_value (of_kind kind) x p b.left) (number_value (of_kind kind) y p b.right) b.left b.right
-arithmetic_comes o ill x y p b = absurd p
+arithmetic_comes o OnlyNull x y p b = null_comes o x y b.left
+arithmetic_comes o (OfKind kind) x y p b = calculated_numbers o kind kind x y (number_value (OfKind kind) x p b.left) (number_value (OfKind kind) y p b.right) b.left b.right
+arithmetic_comes o Ill x y p b = absurd p
 
-joined_comes : (x y : Value) → IsText x → IsText y → Comes (of_kind k.Text) (calculated op.Add x y)
+joined_comes : (x y : Value) → IsText x → IsText y → Comes (OfKind k.Text) (calculated op.Add x y)
 joined_comes v.Null y m n = tt
 joined_comes (v.Text a) v.Null m n = tt
 joined_comes (v.Text a) (v.Text b) m n = tt
@@ -83,19 +85,19 @@ joined_comes (v.Int _ _) y m n = absurd m
 joined_comes (v.Blob _) y m n = absurd m
 
 add_comes : (u : Typing) (x y : Value) → Passes (λ kind. is_integer kind || is_text kind) u → AreBoth u x y → Comes u (calculated op.Add x y)
-add_comes only_null x y p b = null_comes op.Add x y b.left
-add_comes (of_kind k.Text) x y p b = joined_comes x y (text_value (of_kind k.Text) x refl b.left) (text_value (of_kind k.Text) y refl b.right)
-add_comes (of_kind k.Bool) x y p b = absurd (cc)
-add_comes (of_kind k.Blob) x y p b = absurd (cc)
-add_comes (of_kind kind) x y p b = arithmetic_comes op.Add (of_kind kind) x y refl b
-add_comes ill x y p b = absurd p
+add_comes OnlyNull x y p b = null_comes op.Add x y b.left
+add_comes (OfKind k.Text) x y p b = joined_comes x y (text_value (OfKind k.Text) x refl b.left) (text_value (OfKind k.Text) y refl b.right)
+add_comes (OfKind k.Bool) x y p b = absurd (cc)
+add_comes (OfKind k.Blob) x y p b = absurd (cc)
+add_comes (OfKind kind) x y p b = arithmetic_comes op.Add (OfKind kind) x y refl b
+add_comes Ill x y p b = absurd p
 
 shift_one : (o : BinOp) (s t : Typing) (x y : Value) → Passes is_integer s → Passes is_integer t → HasType s x → HasType t y → Comes s (calculated o x y)
-shift_one o only_null t x y p q h g = null_comes o x y h
-shift_one o (of_kind kind) only_null x y p q h g = calculated_numbers o kind kind x y (number_value (of_kind kind) x p h) (number_value only_null y q g) h (null_has kind y g)
-shift_one o (of_kind kind) (of_kind own) x y p q h g = calculated_numbers o kind own x y (number_value (of_kind kind) x p h) (number_value (of_kind own) y q g) h g
-shift_one o (of_kind kind) ill x y p q h g = absurd q
-shift_one o ill t x y p q h g = absurd p
+shift_one o OnlyNull t x y p q h g = null_comes o x y h
+shift_one o (OfKind kind) OnlyNull x y p q h g = calculated_numbers o kind kind x y (number_value (OfKind kind) x p h) (number_value OnlyNull y q g) h (null_has kind y g)
+shift_one o (OfKind kind) (OfKind own) x y p q h g = calculated_numbers o kind own x y (number_value (OfKind kind) x p h) (number_value (OfKind own) y q g) h g
+shift_one o (OfKind kind) Ill x y p q h g = absurd q
+shift_one o Ill t x y p q h g = absurd p
 
 shift_comes : (o : BinOp) (s t : Typing) (x y : Value) → IsTyped (given_type (among is_integer t) (among is_integer s)) → HasType s x → HasType t y → Comes (given_type (among is_integer t) (among is_integer s)) (calculated o x y)
 shift_comes o s t x y h f g =
@@ -128,10 +130,10 @@ comparison_kind o (v.Blob _) (v.Text _) = tt
 comparison_kind o (v.Blob _) (v.Blob _) = tt
 
 -- what a truth comes to, where its operands have one type
-pub truth_comes : (u : Typing) (a : Outcome) → IsTyped (truth_of u) → (IsTyped u → Comes (of_kind k.Bool) a) → Comes (truth_of u) a
-truth_comes u a h g = let parts = given_parts u (of_kind k.Bool) h in subst (λ t. Comes t a) (sym parts.1) (g parts.0)
+pub truth_comes : (u : Typing) (a : Outcome) → IsTyped (truth_of u) → (IsTyped u → Comes (OfKind k.Bool) a) → Comes (truth_of u) a
+truth_comes u a h g = let parts = given_parts u (OfKind k.Bool) h in subst (λ t. Comes t a) (sym parts.1) (g parts.0)
 
-both_comes : (x y : Value) → IsTruth x → IsTruth y → Comes (of_kind k.Bool) (both x y)
+both_comes : (x y : Value) → IsTruth x → IsTruth y → Comes (OfKind k.Bool) (both x y)
 both_comes (v.Bool false) y m n = tt
 both_comes (v.Bool true) v.Null m n = tt
 both_comes (v.Bool true) (v.Bool _) m n = tt
@@ -148,7 +150,7 @@ both_comes (v.Int _ _) y m n = absurd m
 both_comes (v.Text _) y m n = absurd m
 both_comes (v.Blob _) y m n = absurd m
 
-either_comes : (x y : Value) → IsTruth x → IsTruth y → Comes (of_kind k.Bool) (either x y)
+either_comes : (x y : Value) → IsTruth x → IsTruth y → Comes (OfKind k.Bool) (either x y)
 either_comes (v.Bool true) y m n = tt
 either_comes (v.Bool false) v.Null m n = tt
 either_comes (v.Bool false) (v.Bool _) m n = tt
@@ -186,7 +188,7 @@ sums_come s t x y h f g =
     let p = operands (λ kind. is_integer kind || is_text kind) s t x y h f g in
     subst (λ u. Comes u (calculated op.Add x y)) (sym p.same) (add_comes (meet s t) x y p.passes p.values)
 
-logic_comes : (a : Outcome) (s t : Typing) (x y : Value) → (IsTruth x → IsTruth y → Comes (of_kind k.Bool) a) → IsTyped (truth_of (among is_truth (meet s t))) → HasType s x → HasType t y → Comes (truth_of (among is_truth (meet s t))) a
+logic_comes : (a : Outcome) (s t : Typing) (x y : Value) → (IsTruth x → IsTruth y → Comes (OfKind k.Bool) a) → IsTyped (truth_of (among is_truth (meet s t))) → HasType s x → HasType t y → Comes (truth_of (among is_truth (meet s t))) a
 logic_comes a s t x y e h f g = truth_comes (among is_truth (meet s t)) a h (λ typed.
     let p = operands is_truth s t x y typed f g in
     e (truth_value (meet s t) x p.passes p.values.left) (truth_value (meet s t) y p.passes p.values.right))
@@ -207,7 +209,7 @@ operated_comes op.Like s t x y h f g = absurd h
 operated_comes o s t x y h f g = integers_come o s t x y h f g
 
 truth_typed : (test : Kind → Bool) (s t : Typing) → IsTyped (truth_of (among test (meet s t))) → IsTyped s × IsTyped t
-truth_typed test s t h = pair_typed test s t (given_parts (among test (meet s t)) (of_kind k.Bool) h).0
+truth_typed test s t h = pair_typed test s t (given_parts (among test (meet s t)) (OfKind k.Bool) h).0
 
 shift_typed : (s t : Typing) → IsTyped (given_type (among is_integer t) (among is_integer s)) → IsTyped s × IsTyped t
 shift_typed s t h =
@@ -219,8 +221,8 @@ pub operand_typed : (o : BinOp) (s t : Typing) → IsTyped (operator_type o s t)
 operand_typed op.Add s t h = pair_typed (λ kind. is_integer kind || is_text kind) s t h
 operand_typed op.Shl s t h = shift_typed s t h
 operand_typed op.Shr s t h = shift_typed s t h
-operand_typed op.Eq s t h = meet_typed s t (given_parts (meet s t) (of_kind k.Bool) h).0
-operand_typed op.Ne s t h = meet_typed s t (given_parts (meet s t) (of_kind k.Bool) h).0
+operand_typed op.Eq s t h = meet_typed s t (given_parts (meet s t) (OfKind k.Bool) h).0
+operand_typed op.Ne s t h = meet_typed s t (given_parts (meet s t) (OfKind k.Bool) h).0
 operand_typed op.Lt s t h = truth_typed (λ kind. not (is_truth kind)) s t h
 operand_typed op.Le s t h = truth_typed (λ kind. not (is_truth kind)) s t h
 operand_typed op.Gt s t h = truth_typed (λ kind. not (is_truth kind)) s t h

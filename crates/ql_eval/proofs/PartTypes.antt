@@ -15,7 +15,9 @@ use Rattle.ql_value.proofs.ArithLaws.{wrapped_has}
 use Rattle.ql_value.proofs.KindLaws.{the_kind_laws}
 use Rattle.ql_value.specs.Kinds.{is_integer, is_truth, is_text, is_byte_list}
 use Rattle.ql_syntax.specs.Values.{gives, means_nothing, outcome_of, prefix, prefix_number, prefixed, is_convertible, convert_to, narrow_to, length_of, asked, at_place}
-use Rattle.ql_syntax.specs.Typing.{Typing, only_null, of_kind, ill, IsTyped, HasType, FitsRow, among, meet, prefix_type, prefixed_type, converts, constant_type, place_type}
+use Rattle.ql_syntax.specs.declared.typing.Typing.{Typing}
+use Rattle.ql_syntax.specs.declared.typing.Typing.TheVariants.{OnlyNull, OfKind, Ill}
+use Rattle.ql_syntax.specs.Typing.{IsTyped, HasType, FitsRow, among, meet, prefix_type, prefixed_type, converts, constant_type, place_type}
 use Rattle.ql_eval.proofs.TypeLemmas.{Passes, among_passes, among_typed, meet_both}
 use Rattle.ql_eval.proofs.Sorts.{IsNumber, IsTruth, IsText, IsBytes, number_value, truth_value, text_value, bytes_value}
 use Rattle.ql_eval.proofs.OperatorTypes.{Comes, then_comes, comes_of}
@@ -25,7 +27,7 @@ wrapped_kind i kind z e h = (e, h, subst (λ own. HasNumber kind (wrapped own z)
 
 -- an operator of numbers before a number keeps its kind
 abbrev KeepsKind : UnOp → Type 0
-KeepsKind o = (kind i : Kind) (z : ℤ) → HasKind kind (v.Int i z) → Comes (of_kind kind) (prefix_number o i z)
+KeepsKind o = (kind i : Kind) (z : ℤ) → HasKind kind (v.Int i z) → Comes (OfKind kind) (prefix_number o i z)
 
 plus_keeps : KeepsKind un.Plus
 plus_keeps kind i z h = h
@@ -36,7 +38,7 @@ minus_keeps kind i z h = wrapped_kind i kind (pos 0 -ℤ z) h.0 h.1
 flip_keeps : KeepsKind un.Flip
 flip_keeps kind i z h = wrapped_kind i kind (pos (bit_xor (residue i (negsuc 0)) (residue i z))) h.0 h.1
 
-signed_kind : (o : UnOp) (kind : Kind) (y : Value) → KeepsKind o → IsNumber y → HasKind kind y → Comes (of_kind kind) (prefix o y)
+signed_kind : (o : UnOp) (kind : Kind) (y : Value) → KeepsKind o → IsNumber y → HasKind kind y → Comes (OfKind kind) (prefix o y)
 signed_kind o kind v.Null g n h = tt
 signed_kind o kind (v.Int i z) g n h = g kind i z h
 signed_kind o kind (v.Bool _) g n h = absurd n
@@ -44,11 +46,11 @@ signed_kind o kind (v.Text _) g n h = absurd n
 signed_kind o kind (v.Blob _) g n h = absurd n
 
 signed_comes : (o : UnOp) (u : Typing) (y : Value) → KeepsKind o → Passes is_integer u → HasType u y → Comes u (prefix o y)
-signed_comes o only_null y g p h = subst (λ z. Comes only_null (prefix o z)) (sym h) refl
-signed_comes o (of_kind kind) y g p h = signed_kind o kind y g (number_value (of_kind kind) y p h) h
-signed_comes o ill y g p h = absurd p
+signed_comes o OnlyNull y g p h = subst (λ z. Comes OnlyNull (prefix o z)) (sym h) refl
+signed_comes o (OfKind kind) y g p h = signed_kind o kind y g (number_value (OfKind kind) y p h) h
+signed_comes o Ill y g p h = absurd p
 
-not_kind : (y : Value) → IsTruth y → Comes (of_kind k.Bool) (prefix un.Not y)
+not_kind : (y : Value) → IsTruth y → Comes (OfKind k.Bool) (prefix un.Not y)
 not_kind v.Null n = tt
 not_kind (v.Bool _) n = tt
 not_kind (v.Int _ _) n = absurd n
@@ -56,10 +58,10 @@ not_kind (v.Text _) n = absurd n
 not_kind (v.Blob _) n = absurd n
 
 not_comes : (u : Typing) (y : Value) → Passes is_truth u → HasType u y → Comes u (prefix un.Not y)
-not_comes only_null y p h = subst (λ z. Comes only_null (prefix un.Not z)) (sym h) refl
-not_comes (of_kind k.Bool) y p h = not_kind y (truth_value (of_kind k.Bool) y refl h)
-not_comes (of_kind _) y p h = absurd (cc)
-not_comes ill y p h = absurd p
+not_comes OnlyNull y p h = subst (λ z. Comes OnlyNull (prefix un.Not z)) (sym h) refl
+not_comes (OfKind k.Bool) y p h = not_kind y (truth_value (OfKind k.Bool) y refl h)
+not_comes (OfKind _) y p h = absurd (cc)
+not_comes Ill y p h = absurd p
 
 numbers_prefixed : (o : UnOp) (u : Typing) (y : Value) → KeepsKind o → IsTyped (among is_integer u) → HasType u y → Comes (among is_integer u) (prefix o y)
 numbers_prefixed o u y g h f = let p = among_passes is_integer u h in subst (λ t. Comes t (prefix o y)) (sym p.1) (signed_comes o u y g p.0 f)
@@ -139,42 +141,42 @@ kind_converts kind own (v.Text bytes) e h = let t = text_converts kind own bytes
 kind_converts kind own (v.Blob bytes) e h = let t = blob_converts kind own bytes e h in record { test = t; fits = t }
 
 type_converts : (kind : Kind) (t : Typing) (x : Value) → Passes (converts kind) t → HasType t x → Converts kind x
-type_converts kind only_null x p h = subst (Converts kind) (sym h) (record { test = refl; fits = tt })
-type_converts kind (of_kind own) x p h = kind_converts kind own x p h
-type_converts kind ill x p h = absurd p
+type_converts kind OnlyNull x p h = subst (Converts kind) (sym h) (record { test = refl; fits = tt })
+type_converts kind (OfKind own) x p h = kind_converts kind own x p h
+type_converts kind Ill x p h = absurd p
 
-pub convert_comes : (kind : Kind) (t : Typing) (x : Value) → Passes (converts kind) t → HasType t x → Comes (of_kind kind) (convert_to kind x)
+pub convert_comes : (kind : Kind) (t : Typing) (x : Value) → Passes (converts kind) t → HasType t x → Comes (OfKind kind) (convert_to kind x)
 convert_comes kind t x p h =
     let c = type_converts kind t x p h in
-    subst (λ b. Comes (of_kind kind) (if b then gives (converted kind x) else means_nothing)) (sym c.test) (the_kind_laws.conversion kind x c.fits)
+    subst (λ b. Comes (OfKind kind) (if b then gives (converted kind x) else means_nothing)) (sym c.test) (the_kind_laws.conversion kind x c.fits)
 
 no_lack_fit : (kind : Kind) (z : ℤ) (b : Bool) → (if b then Ok (v.Int kind z) else Err fault.Range) ≢ Err fault.NoMemory
 no_lack_fit kind z true = λ e. cc
 no_lack_fit kind z false = λ e. cc
 
-narrow_kind : (kind : Kind) (x : Value) → is_integer kind ≡ true → IsNumber x → Comes (of_kind kind) (narrow_to kind x)
+narrow_kind : (kind : Kind) (x : Value) → is_integer kind ≡ true → IsNumber x → Comes (OfKind kind) (narrow_to kind x)
 narrow_kind kind v.Null e n = tt
 narrow_kind kind (v.Int i z) e n =
-    let fits : Comes (of_kind kind) (outcome_of (fitted kind z)) = comes_of kind (fitted kind z) (no_lack_fit kind z (has_number kind z)) (the_kind_laws.fit kind z e) in
-    subst (λ b. Comes (of_kind kind) (if b then outcome_of (fitted kind z) else means_nothing)) (sym e) fits
+    let fits : Comes (OfKind kind) (outcome_of (fitted kind z)) = comes_of kind (fitted kind z) (no_lack_fit kind z (has_number kind z)) (the_kind_laws.fit kind z e) in
+    subst (λ b. Comes (OfKind kind) (if b then outcome_of (fitted kind z) else means_nothing)) (sym e) fits
 narrow_kind kind (v.Bool _) e n = absurd n
 narrow_kind kind (v.Text _) e n = absurd n
 narrow_kind kind (v.Blob _) e n = absurd n
 
-pub narrow_comes : (kind : Kind) (t : Typing) (x : Value) → is_integer kind ≡ true → Passes is_integer t → HasType t x → Comes (of_kind kind) (narrow_to kind x)
+pub narrow_comes : (kind : Kind) (t : Typing) (x : Value) → is_integer kind ≡ true → Passes is_integer t → HasType t x → Comes (OfKind kind) (narrow_to kind x)
 narrow_comes kind t x e p h = narrow_kind kind x e (number_value t x p h)
 
-length_kind : (x : Value) → IsBytes x → Comes (of_kind k.Int64) (length_of x)
+length_kind : (x : Value) → IsBytes x → Comes (OfKind k.Int64) (length_of x)
 length_kind v.Null n = tt
 length_kind (v.Text bytes) n = wrapped_kind k.Int64 k.Int64 (pos (length bytes)) refl refl
 length_kind (v.Blob bytes) n = wrapped_kind k.Int64 k.Int64 (pos (length bytes)) refl refl
 length_kind (v.Bool _) n = absurd n
 length_kind (v.Int _ _) n = absurd n
 
-pub length_comes : (t : Typing) (x : Value) → Passes is_byte_list t → HasType t x → Comes (of_kind k.Int64) (length_of x)
+pub length_comes : (t : Typing) (x : Value) → Passes is_byte_list t → HasType t x → Comes (OfKind k.Int64) (length_of x)
 length_comes t x p h = length_kind x (bytes_value t x p h)
 
-asked_kind : (test : List ℕ → List ℕ → Bool) (x y : Value) → IsText x → IsText y → Comes (of_kind k.Bool) (asked test x y)
+asked_kind : (test : List ℕ → List ℕ → Bool) (x y : Value) → IsText x → IsText y → Comes (OfKind k.Bool) (asked test x y)
 asked_kind test v.Null y m n = tt
 asked_kind test (v.Text a) v.Null m n = tt
 asked_kind test (v.Text a) (v.Text b) m n = tt
@@ -186,7 +188,7 @@ asked_kind test (v.Int _ _) y m n = absurd m
 asked_kind test (v.Blob _) y m n = absurd m
 
 -- a question to two values of types that meet among strings
-pub asked_comes : (test : List ℕ → List ℕ → Bool) (s t : Typing) (x y : Value) → IsTyped (among is_text (meet s t)) → HasType s x → HasType t y → Comes (of_kind k.Bool) (asked test x y)
+pub asked_comes : (test : List ℕ → List ℕ → Bool) (s t : Typing) (x y : Value) → IsTyped (among is_text (meet s t)) → HasType s x → HasType t y → Comes (OfKind k.Bool) (asked test x y)
 asked_comes test s t x y h f g =
     let p = among_passes is_text (meet s t) h in
     let both = meet_both s t x y (among_typed is_text (meet s t) h) f g in
@@ -195,7 +197,7 @@ asked_comes test s t x y h f g =
 le_from : (a b : ℤ) → int_le a b ≡ true → a ≤ℤ b
 le_from a b e = record { le = T_from_true (int_le a b) e }
 
-constant_if : (kind : Kind) (z : ℤ) (b : Bool) → (is_integer kind && has_number kind z) ≡ b → IsTyped (if b then of_kind kind else ill) → HasType (if b then of_kind kind else ill) (v.Int kind z)
+constant_if : (kind : Kind) (z : ℤ) (b : Bool) → (is_integer kind && has_number kind z) ≡ b → IsTyped (if b then OfKind kind else Ill) → HasType (if b then OfKind kind else Ill) (v.Int kind z)
 constant_if kind z true e h =
     let p = and_parts (is_integer kind) (has_number kind z) e in
     let q = and_parts (int_le (least kind) z) (int_le z (greatest kind)) p.1 in

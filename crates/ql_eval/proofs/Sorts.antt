@@ -6,7 +6,9 @@ use Rattle.ql_value.specs.declared.value.Value.{Value}
 use Rattle.ql_value.specs.declared.value.Value.TheVariants as v
 use Rattle.ql_value.specs.Number.{HasKind}
 use Rattle.ql_value.specs.Kinds.{is_integer, is_truth, is_text, is_byte_list}
-use Rattle.ql_syntax.specs.Typing.{Typing, only_null, of_kind, ill, HasType}
+use Rattle.ql_syntax.specs.declared.typing.Typing.{Typing}
+use Rattle.ql_syntax.specs.declared.typing.Typing.TheVariants.{OnlyNull, OfKind, Ill}
+use Rattle.ql_syntax.specs.Typing.{HasType}
 use Rattle.ql_eval.proofs.TypeLemmas.{Passes}
 
 -- NULL or a number
@@ -75,9 +77,9 @@ bytes_kind _ x e h = absurd (cc)
 
 -- a value of a type whose kind passes the test, where each value of such a kind has a property that NULL has
 of_group : (test : Kind → Bool) (P : Value → Type 0) → P v.Null → ((kind : Kind) (x : Value) → test kind ≡ true → HasKind kind x → P x) → (t : Typing) (x : Value) → Passes test t → HasType t x → P x
-of_group test P n f only_null x p h = subst P (sym h) n
-of_group test P n f (of_kind kind) x p h = f kind x p h
-of_group test P n f ill x p h = absurd h
+of_group test P n f OnlyNull x p h = subst P (sym h) n
+of_group test P n f (OfKind kind) x p h = f kind x p h
+of_group test P n f Ill x p h = absurd h
 
 pub number_value : (t : Typing) (x : Value) → Passes is_integer t → HasType t x → IsNumber x
 number_value = of_group is_integer IsNumber tt number_kind

@@ -16,7 +16,9 @@ use Rattle.ql_syntax.specs.declared.typed.Typed.TheOpen.{Typed-F, TypedLink-F}
 use Rattle.ql_syntax.specs.declared.typed.Typed.TheViews.{roll-Typed, roll-TypedLink}
 use Rattle.ql_value.specs.Kinds.{is_integer, is_text, is_byte_list}
 use Rattle.ql_syntax.specs.Values.{Outcome, Step, IsMeant, value_step, link_step, gives, refuses, means_nothing, then_from, is_null, operated, linked, chained, asked, asked_of, measured, length_of, coalesced, called, equals, or_equals, is_in, prefixed, convert_to, narrow_to, value_at, step_at}
-use Rattle.ql_syntax.specs.Typing.{Typing, only_null, of_kind, ill, IsTyped, HasType, FitsRow, among, given_type, meet, meet_all, truth_of, operator_type, StepType, chain_type, call_type, prefixed_type, converts, type_of, type_step, link_type}
+use Rattle.ql_syntax.specs.declared.typing.Typing.{Typing}
+use Rattle.ql_syntax.specs.declared.typing.Typing.TheVariants.{OnlyNull, OfKind, Ill}
+use Rattle.ql_syntax.specs.Typing.{IsTyped, HasType, FitsRow, among, given_type, meet, meet_all, truth_of, operator_type, StepType, chain_type, call_type, prefixed_type, converts, type_of, type_step, link_type}
 use Rattle.ql_eval.specs.declared.fault.EvalFault.{EvalFault}
 use Rattle.ql_eval.specs.Gives.{Gives}
 use Rattle.ql_eval.proofs.TypeLemmas.{among_passes, given_parts, meet_both, meet_typed, pair_typed}
@@ -77,9 +79,9 @@ EachWithin u [] = Unit {0}
 EachWithin u (t ∷ types) = Within u t × EachWithin u types
 
 null_typed : (u : Typing) → IsTyped u → HasType u v.Null
-null_typed only_null h = refl
-null_typed (of_kind kind) h = tt
-null_typed ill h = h
+null_typed OnlyNull h = refl
+null_typed (OfKind kind) h = tt
+null_typed Ill h = h
 
 meet_left : (s t : Typing) (x : Value) → IsTyped (meet s t) → HasType s x → HasType (meet s t) x
 meet_left s t x h f = (meet_both s t x v.Null h f (null_typed t (meet_typed s t h).1)).left
@@ -112,37 +114,37 @@ module _ (types : List Typing) (row : List Value) where
   coalesced_comes u (p ∷ parts) h w =
       then_comes (type_of types p.0) u (value_at row p.0) _ (p.1 w.0.typed) (λ x f. either_way u (is_null x) (coalesced (part_values types row parts)) (gives x) (coalesced_comes u parts h w.1) (w.0.grows x f))
 
-  equals_comes : (a : Value) (p : Part types row) → IsTyped (type_of types p.0) → Comes (of_kind k.Bool) (equals a (value_at row p.0))
-  equals_comes a p h = then_comes (type_of types p.0) (of_kind k.Bool) (value_at row p.0) (operated op.Eq a) (p.1 h) (λ y f. comparison_kind op.Eq a y)
+  equals_comes : (a : Value) (p : Part types row) → IsTyped (type_of types p.0) → Comes (OfKind k.Bool) (equals a (value_at row p.0))
+  equals_comes a p h = then_comes (type_of types p.0) (OfKind k.Bool) (value_at row p.0) (operated op.Eq a) (p.1 h) (λ y f. comparison_kind op.Eq a y)
 
-  among_comes : (u : Typing) (a x : Value) (parts : List (Part types row)) → EachWithin u (part_types types row parts) → HasKind k.Bool x → Comes (of_kind k.Bool) (chained x (map (or_equals a) (part_values types row parts)))
+  among_comes : (u : Typing) (a x : Value) (parts : List (Part types row)) → EachWithin u (part_types types row parts) → HasKind k.Bool x → Comes (OfKind k.Bool) (chained x (map (or_equals a) (part_values types row parts)))
   among_comes u a x [] w h = h
   among_comes u a x (p ∷ parts) w h =
-      then_comes (of_kind k.Bool) (of_kind k.Bool) (linked op.Either x (equals a (value_at row p.0))) (λ y. chained y (map (or_equals a) (part_values types row parts)))
-      (linked_comes op.Either (of_kind k.Bool) (of_kind k.Bool) x (equals a (value_at row p.0)) tt h (λ typed. equals_comes a p w.0.typed))
+      then_comes (OfKind k.Bool) (OfKind k.Bool) (linked op.Either x (equals a (value_at row p.0))) (λ y. chained y (map (or_equals a) (part_values types row parts)))
+      (linked_comes op.Either (OfKind k.Bool) (OfKind k.Bool) x (equals a (value_at row p.0)) tt h (λ typed. equals_comes a p w.0.typed))
       (λ y f. among_comes u a y parts w.1 f)
 
-  is_in_comes : (u : Typing) (a : Value) (parts : List (Part types row)) → EachWithin u (part_types types row parts) → Comes (of_kind k.Bool) (is_in a (part_values types row parts))
+  is_in_comes : (u : Typing) (a : Value) (parts : List (Part types row)) → EachWithin u (part_types types row parts) → Comes (OfKind k.Bool) (is_in a (part_values types row parts))
   is_in_comes u a [] w = tt
   is_in_comes u a (p ∷ parts) w =
-      then_comes (of_kind k.Bool) (of_kind k.Bool) (equals a (value_at row p.0)) (λ x. chained x (map (or_equals a) (part_values types row parts))) (equals_comes a p w.0.typed) (λ x f. among_comes u a x parts w.1 f)
+      then_comes (OfKind k.Bool) (OfKind k.Bool) (equals a (value_at row p.0)) (λ x. chained x (map (or_equals a) (part_values types row parts))) (equals_comes a p w.0.typed) (λ x f. among_comes u a x parts w.1 f)
 
   measured_comes : (parts : List (Part types row)) → IsTyped (call_type f.Len (part_types types row parts)) → Comes (call_type f.Len (part_types types row parts)) (measured (part_values types row parts))
   measured_comes [] h = absurd h
   measured_comes (p ∷ []) h =
       let t = type_of types p.0 in
-      let parts = given_parts (among is_byte_list t) (of_kind k.Int64) h in
+      let parts = given_parts (among is_byte_list t) (OfKind k.Int64) h in
       let passes = among_passes is_byte_list t parts.0 in
       let typed : IsTyped t = subst IsTyped passes.1 parts.0 in
-      subst (λ u. Comes u (measured (value_at row p.0 ∷ []))) (sym parts.1) (then_comes t (of_kind k.Int64) (value_at row p.0) length_of (p.1 typed) (λ x g. length_comes t x passes.0 g))
+      subst (λ u. Comes u (measured (value_at row p.0 ∷ []))) (sym parts.1) (then_comes t (OfKind k.Int64) (value_at row p.0) length_of (p.1 typed) (λ x g. length_comes t x passes.0 g))
   measured_comes (p ∷ q ∷ parts) h = absurd h
 
-  questions_come : (test : List ℕ → List ℕ → Bool) (p q : Part types row) → IsTyped (among is_text (meet (type_of types p.0) (type_of types q.0))) → Comes (of_kind k.Bool) (asked_of test (value_at row p.0 ∷ value_at row q.0 ∷ []))
+  questions_come : (test : List ℕ → List ℕ → Bool) (p q : Part types row) → IsTyped (among is_text (meet (type_of types p.0) (type_of types q.0))) → Comes (OfKind k.Bool) (asked_of test (value_at row p.0 ∷ value_at row q.0 ∷ []))
   questions_come test p q h =
       let s = type_of types p.0 in
       let t = type_of types q.0 in
       let typed = pair_typed is_text s t h in
-      then_comes s (of_kind k.Bool) (value_at row p.0) _ (p.1 typed.0) (λ x g. then_comes t (of_kind k.Bool) (value_at row q.0) (asked test x) (q.1 typed.1) (λ y e. asked_comes test s t x y h g e))
+      then_comes s (OfKind k.Bool) (value_at row p.0) _ (p.1 typed.0) (λ x g. then_comes t (OfKind k.Bool) (value_at row q.0) (asked test x) (q.1 typed.1) (λ y e. asked_comes test s t x y h g e))
 
   question_comes : (test : List ℕ → List ℕ → Bool) (p q : Part types row) → IsTyped (truth_of (among is_text (meet (type_of types p.0) (type_of types q.0)))) → Comes (truth_of (among is_text (meet (type_of types p.0) (type_of types q.0)))) (asked_of test (value_at row p.0 ∷ value_at row q.0 ∷ []))
   question_comes test p q h = truth_comes _ (asked_of test (value_at row p.0 ∷ value_at row q.0 ∷ [])) h (λ typed. questions_come test p q typed)
@@ -178,22 +180,22 @@ module _ (types : List Typing) (row : List Value) where
         part = subst (λ u. IsTyped u → Comes u (step_at row (roll-TypedLink z)).part) (sym (ap (λ s. s.part) e)) (subst (λ o. IsTyped (type_of types z.part) → Comes (type_of types z.part) o) (sym (ap (λ s. s.part) g)) h);
       }
 
-  converted_comes : (kind : Kind) (p : Part types row) → IsTyped (given_type (among (converts kind) (type_of types p.0)) (of_kind kind)) → Comes (given_type (among (converts kind) (type_of types p.0)) (of_kind kind)) (then_from (value_at row p.0) (convert_to kind))
+  converted_comes : (kind : Kind) (p : Part types row) → IsTyped (given_type (among (converts kind) (type_of types p.0)) (OfKind kind)) → Comes (given_type (among (converts kind) (type_of types p.0)) (OfKind kind)) (then_from (value_at row p.0) (convert_to kind))
   converted_comes kind p h =
       let t = type_of types p.0 in
-      let parts = given_parts (among (converts kind) t) (of_kind kind) h in
+      let parts = given_parts (among (converts kind) t) (OfKind kind) h in
       let passes = among_passes (converts kind) t parts.0 in
       let typed : IsTyped t = subst IsTyped passes.1 parts.0 in
-      subst (λ u. Comes u (then_from (value_at row p.0) (convert_to kind))) (sym parts.1) (then_comes t (of_kind kind) (value_at row p.0) (convert_to kind) (p.1 typed) (λ x e. convert_comes kind t x passes.0 e))
+      subst (λ u. Comes u (then_from (value_at row p.0) (convert_to kind))) (sym parts.1) (then_comes t (OfKind kind) (value_at row p.0) (convert_to kind) (p.1 typed) (λ x e. convert_comes kind t x passes.0 e))
 
-  narrowed_comes : (kind : Kind) (p : Part types row) → IsTyped (given_type (among is_integer (type_of types p.0)) (among is_integer (of_kind kind))) → Comes (given_type (among is_integer (type_of types p.0)) (among is_integer (of_kind kind))) (then_from (value_at row p.0) (narrow_to kind))
+  narrowed_comes : (kind : Kind) (p : Part types row) → IsTyped (given_type (among is_integer (type_of types p.0)) (among is_integer (OfKind kind))) → Comes (given_type (among is_integer (type_of types p.0)) (among is_integer (OfKind kind))) (then_from (value_at row p.0) (narrow_to kind))
   narrowed_comes kind p h =
       let t = type_of types p.0 in
-      let parts = given_parts (among is_integer t) (among is_integer (of_kind kind)) h in
+      let parts = given_parts (among is_integer t) (among is_integer (OfKind kind)) h in
       let passes = among_passes is_integer t parts.0 in
-      let own = among_passes is_integer (of_kind kind) (subst IsTyped parts.1 h) in
+      let own = among_passes is_integer (OfKind kind) (subst IsTyped parts.1 h) in
       let typed : IsTyped t = subst IsTyped passes.1 parts.0 in
-      subst (λ u. Comes u (then_from (value_at row p.0) (narrow_to kind))) (sym (parts.1 ∙ own.1)) (then_comes t (of_kind kind) (value_at row p.0) (narrow_to kind) (p.1 typed) (λ x e. narrow_comes kind t x own.0 passes.0 e))
+      subst (λ u. Comes u (then_from (value_at row p.0) (narrow_to kind))) (sym (parts.1 ∙ own.1)) (then_comes t (OfKind kind) (value_at row p.0) (narrow_to kind) (p.1 typed) (λ x e. narrow_comes kind t x own.0 passes.0 e))
 
   prefixes_come : (ops : List UnOp) (p : Part types row) → IsTyped (prefixed_type ops (type_of types p.0)) → Comes (prefixed_type ops (type_of types p.0)) (then_from (value_at row p.0) (prefixed ops))
   prefixes_come ops p h =
@@ -212,12 +214,12 @@ module _ (types : List Typing) (row : List Value) where
       let u = meet_all t (part_types types row parts) in
       truth_comes u (then_from (value_at row p.0) (λ a. is_in a (part_values types row parts))) h (λ typed.
       let one = one_type t (part_types types row parts) typed in
-      then_comes t (of_kind k.Bool) (value_at row p.0) (λ a. is_in a (part_values types row parts)) (p.1 one.first.typed) (λ a e. is_in_comes types row u a parts one.others))
+      then_comes t (OfKind k.Bool) (value_at row p.0) (λ a. is_in a (part_values types row parts)) (p.1 one.first.typed) (λ a e. is_in_comes types row u a parts one.others))
 
   nulls_come : (p : Part types row) → IsTyped (truth_of (type_of types p.0)) → Comes (truth_of (type_of types p.0)) (then_from (value_at row p.0) (λ x. gives (v.Bool (is_null x))))
   nulls_come p h =
       let t = type_of types p.0 in
-      truth_comes t (then_from (value_at row p.0) (λ x. gives (v.Bool (is_null x)))) h (λ typed. then_comes t (of_kind k.Bool) (value_at row p.0) (λ x. gives (v.Bool (is_null x))) (p.1 typed) (λ x e. tt))
+      truth_comes t (then_from (value_at row p.0) (λ x. gives (v.Bool (is_null x)))) h (λ typed. then_comes t (OfKind k.Bool) (value_at row p.0) (λ x. gives (v.Bool (is_null x))) (p.1 typed) (λ x e. tt))
 
   -- one expression, whose parts come to what their types say
   layer : FitsRow types row → (y : Typed-F (Part types row) (Link types row)) → IsSound types row (roll-Typed (map-Typed (Part types row) (Link types row) Typed TypedLink (λ p. p.0) (λ l. l.0) y))

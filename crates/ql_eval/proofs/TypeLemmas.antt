@@ -7,7 +7,9 @@ use Rattle.ql_value.specs.declared.value.Value.{Value}
 use Rattle.ql_value.specs.declared.value.Value.TheVariants as v
 use Rattle.ql_value.specs.Number.{HasKind}
 use Rattle.ql_value.specs.Kinds.{kind_number, same_kind}
-use Rattle.ql_syntax.specs.Typing.{Typing, only_null, of_kind, ill, IsTyped, HasType, among, given_type, meet}
+use Rattle.ql_syntax.specs.declared.typing.Typing.{Typing}
+use Rattle.ql_syntax.specs.declared.typing.Typing.TheVariants.{OnlyNull, OfKind, Ill}
+use Rattle.ql_syntax.specs.Typing.{IsTyped, HasType, among, given_type, meet}
 
 -- the kind with a number
 kind_of : ℕ → Kind
@@ -34,23 +36,23 @@ one_kind a b h = sym (kind_back a) ∙ ap kind_of (eqb-true (kind_number a) (kin
 
 -- the kind of the type passes the test
 abbrev pub Passes : (Kind → Bool) → Typing → Type 0
-Passes test only_null = Unit {0}
-Passes test (of_kind kind) = test kind ≡ true
-Passes test ill = ⊥
+Passes test OnlyNull = Unit {0}
+Passes test (OfKind kind) = test kind ≡ true
+Passes test Ill = ⊥
 
-passes_if : (test : Kind → Bool) (kind : Kind) (b : Bool) → test kind ≡ b → IsTyped (if b then of_kind kind else ill) → Passes test (of_kind kind) × ((if b then of_kind kind else ill) ≡ of_kind kind)
+passes_if : (test : Kind → Bool) (kind : Kind) (b : Bool) → test kind ≡ b → IsTyped (if b then OfKind kind else Ill) → Passes test (OfKind kind) × ((if b then OfKind kind else Ill) ≡ OfKind kind)
 passes_if test kind true e h = (e, refl)
 passes_if test kind false e h = absurd h
 
 pub among_passes : (test : Kind → Bool) (t : Typing) → IsTyped (among test t) → Passes test t × (among test t ≡ t)
-among_passes test only_null h = (tt, refl)
-among_passes test (of_kind kind) h = passes_if test kind (test kind) refl h
-among_passes test ill h = absurd h
+among_passes test OnlyNull h = (tt, refl)
+among_passes test (OfKind kind) h = passes_if test kind (test kind) refl h
+among_passes test Ill h = absurd h
 
 pub given_parts : (s t : Typing) → IsTyped (given_type s t) → IsTyped s × (given_type s t ≡ t)
-given_parts only_null t h = (tt, refl)
-given_parts (of_kind kind) t h = (tt, refl)
-given_parts ill t h = absurd h
+given_parts OnlyNull t h = (tt, refl)
+given_parts (OfKind kind) t h = (tt, refl)
+given_parts Ill t h = absurd h
 
 -- both values are of the type
 pub record AreBoth (t : Typing) (x y : Value) : Type 0 where
@@ -60,33 +62,33 @@ pub record AreBoth (t : Typing) (x y : Value) : Type 0 where
 pub null_has : (kind : Kind) (x : Value) → x ≡ v.Null → HasKind kind x
 null_has kind x e = subst (HasKind kind) (sym e) tt
 
-kinds_if : (a b : Kind) (c : Bool) → same_kind a b ≡ c → (x y : Value) → IsTyped (if c then of_kind a else ill) → HasKind a x → HasKind b y → AreBoth (if c then of_kind a else ill) x y
+kinds_if : (a b : Kind) (c : Bool) → same_kind a b ≡ c → (x y : Value) → IsTyped (if c then OfKind a else Ill) → HasKind a x → HasKind b y → AreBoth (if c then OfKind a else Ill) x y
 kinds_if a b true e x y h f g = record { left = f; right = subst (λ z. HasKind z y) (sym (one_kind a b e)) g }
 kinds_if a b false e x y h f g = absurd h
 
 pub meet_both : (s t : Typing) (x y : Value) → IsTyped (meet s t) → HasType s x → HasType t y → AreBoth (meet s t) x y
-meet_both only_null only_null x y h f g = record { left = f; right = g }
-meet_both only_null (of_kind b) x y h f g = record { left = null_has b x f; right = g }
-meet_both only_null ill x y h f g = absurd h
-meet_both (of_kind a) only_null x y h f g = record { left = f; right = null_has a y g }
-meet_both (of_kind a) (of_kind b) x y h f g = kinds_if a b (same_kind a b) refl x y h f g
-meet_both (of_kind a) ill x y h f g = absurd h
-meet_both ill t x y h f g = absurd h
+meet_both OnlyNull OnlyNull x y h f g = record { left = f; right = g }
+meet_both OnlyNull (OfKind b) x y h f g = record { left = null_has b x f; right = g }
+meet_both OnlyNull Ill x y h f g = absurd h
+meet_both (OfKind a) OnlyNull x y h f g = record { left = f; right = null_has a y g }
+meet_both (OfKind a) (OfKind b) x y h f g = kinds_if a b (same_kind a b) refl x y h f g
+meet_both (OfKind a) Ill x y h f g = absurd h
+meet_both Ill t x y h f g = absurd h
 
 -- where two parts have one type, each has one
 pub meet_typed : (s t : Typing) → IsTyped (meet s t) → IsTyped s × IsTyped t
-meet_typed only_null only_null h = (tt, tt)
-meet_typed only_null (of_kind b) h = (tt, tt)
-meet_typed only_null ill h = absurd h
-meet_typed (of_kind a) only_null h = (tt, tt)
-meet_typed (of_kind a) (of_kind b) h = (tt, tt)
-meet_typed (of_kind a) ill h = absurd h
-meet_typed ill t h = absurd h
+meet_typed OnlyNull OnlyNull h = (tt, tt)
+meet_typed OnlyNull (OfKind b) h = (tt, tt)
+meet_typed OnlyNull Ill h = absurd h
+meet_typed (OfKind a) OnlyNull h = (tt, tt)
+meet_typed (OfKind a) (OfKind b) h = (tt, tt)
+meet_typed (OfKind a) Ill h = absurd h
+meet_typed Ill t h = absurd h
 
 pub among_typed : (test : Kind → Bool) (t : Typing) → IsTyped (among test t) → IsTyped t
-among_typed test only_null h = tt
-among_typed test (of_kind kind) h = tt
-among_typed test ill h = absurd h
+among_typed test OnlyNull h = tt
+among_typed test (OfKind kind) h = tt
+among_typed test Ill h = absurd h
 
 -- where two parts have one type among some kinds, each has one
 pub pair_typed : (test : Kind → Bool) (s t : Typing) → IsTyped (among test (meet s t)) → IsTyped s × IsTyped t

@@ -1,7 +1,8 @@
 //! The value of an expression.
 
 ghost use Rattle.std.specs.Prelude.{List, IfOk};
-ghost use Rattle.ql_syntax.specs.Typing.{Typing, FitsRow, HasType, IsTyped, WellTyped, type_of};
+ghost use Rattle.ql_syntax.specs.declared.typing.Typing.{Typing};
+ghost use Rattle.ql_syntax.specs.Typing.{FitsRow, HasType, IsTyped, WellTyped, type_of};
 ghost use Rattle.ql_syntax.specs.Values as spec;
 ghost use Rattle.ql_eval.specs.Gives.{Gives};
 ghost use Rattle.ql_eval.specs.Operand.{GivesOperand, value_of};

@@ -1,5 +1,6 @@
 ghost use Rattle.std.specs.Prelude.{◌≡◌, [], IfOk};
-ghost use Rattle.ql_syntax.specs.Typing.{IsTyped, of_kind, operator_type, type_of};
+ghost use Rattle.ql_syntax.specs.declared.typing.Typing.TheVariants.{OfKind};
+ghost use Rattle.ql_syntax.specs.Typing.{IsTyped, operator_type, type_of};
 
 use super::*;
 use ql_edge::{Boxed, NoMemory};
@@ -9,14 +10,14 @@ use std::test::Fail;
 
 /// A number as an expression.
 fn number(n: i64) -> Typed
-    ensures { type_of [] result ≡ of_kind Kind.Int64 }
+    ensures { type_of [] result ≡ OfKind Kind.Int64 }
 {
     Typed::Constant(Value::Int(Kind::Int64, i128::from(n)))
 }
 
 /// `left op right`
 fn between(alloc: Global, left: i64, op: BinOp, right: i64) -> Result<Typed, NoMemory>
-    requires { IsTyped (operator_type op (of_kind Kind.Int64) (of_kind Kind.Int64)) }
+    requires { IsTyped (operator_type op (OfKind Kind.Int64) (OfKind Kind.Int64)) }
     ensures { IfOk result (λ e. IsTyped (type_of [] e)) }
 {
     let mut rest = TypedLinks::new(alloc);
@@ -46,8 +47,8 @@ fn divisor_of_zero(rt: HostRuntime) -> Result<(), Fail> {
 
 /// `0 - expr`
 fn behind(alloc: Global, expr: Typed) -> Result<Typed, NoMemory>
-    requires { type_of [] expr ≡ of_kind Kind.Int64 }
-    ensures { IfOk result (λ e. type_of [] e ≡ of_kind Kind.Int64) }
+    requires { type_of [] expr ≡ OfKind Kind.Int64 }
+    ensures { IfOk result (λ e. type_of [] e ≡ OfKind Kind.Int64) }
 {
     let mut rest = TypedLinks::new(alloc);
     rest.push(TypedLink {
