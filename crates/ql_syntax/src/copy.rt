@@ -33,10 +33,7 @@ fn copy_name(alloc: Global, name: &Boxed<Name>) -> Result<Boxed<Name>, NoMemory>
     Boxed::new(alloc, copy)
 }
 
-fn copy_alias(
-    alloc: Global,
-    alias: &Option<Boxed<Name>>,
-) -> Result<Option<Boxed<Name>>, NoMemory>
+fn copy_alias(alloc: Global, alias: &Option<Boxed<Name>>) -> Result<Option<Boxed<Name>>, NoMemory>
     ensures { IfOk result (λ copy. copy ≡ alias.now) }
 {
     match alias {
@@ -101,10 +98,7 @@ fn copy_list(alloc: Global, exprs: &Boxed<Exprs>) -> Result<Boxed<Exprs>, NoMemo
 }
 
 #[cycle(copy)]
-fn copy_option(
-    alloc: Global,
-    expr: &Option<Boxed<Expr>>,
-) -> Result<Option<Boxed<Expr>>, NoMemory>
+fn copy_option(alloc: Global, expr: &Option<Boxed<Expr>>) -> Result<Option<Boxed<Expr>>, NoMemory>
     ensures { IfOk result (λ copy. copy ≡ expr.now) }
 {
     match expr {
@@ -167,10 +161,7 @@ fn copy_sets(alloc: Global, sets: &FromSets) -> Result<FromSets, NoMemory>
 }
 
 #[cycle(copy)]
-fn copy_join(
-    alloc: Global,
-    join: &Option<Boxed<Join>>,
-) -> Result<Option<Boxed<Join>>, NoMemory>
+fn copy_join(alloc: Global, join: &Option<Boxed<Join>>) -> Result<Option<Boxed<Join>>, NoMemory>
     ensures { IfOk result (λ copy. copy ≡ join.now) }
 {
     let Some(join) = join else {
