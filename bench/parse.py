@@ -1,5 +1,6 @@
 #!/usr/bin/env python3
-"""Times the lexer, the parser and the copying of expressions through crates/bench_parse, and prints the figures.
+"""Times the lexer, the parser and the copying of expressions through crates/bench_parse, and prints the figures. Then it
+prints the peak memory of the lexer and the parser alone on three scripts.
 
 Run `rt run < stdin` in crates/bench_parse first, which builds out/bench_parse. A figure beyond its limit ends with status 1.
 Each input is also run at half its size: a time that is far from its double is over the limit too. The stack has 8 MB.
@@ -44,9 +45,25 @@ CASES = [
 ]
 
 
+SIZE = 16 << 20
+
+
+def repeated(text, part):
+    """A text, and a part behind it as often as it fits into 16 MiB."""
+    return text + part * ((SIZE - len(text)) // len(part))
+
+
+# name, input, limit in MB of the peak memory without copies
+MEMORY_CASES = [
+    ("200,000 statements", lambda: b'SELECT 1 + 2 * 3 - 4, "a" + "b" == c;\n' * 200_000, 220),
+    ("16 MiB of fields", lambda: repeated(b"SELECT 1", b",1"), 450),
+    ("16 MiB of rows", lambda: repeated(b"INSERT INTO t VALUES (1)", b",(1)"), 650),
+]
+
+
 def timed(make, size):
     """What the program says, the seconds until lexing, parsing, copying and letting go ended, and the peak memory."""
-    results = [run(PROGRAM, make(size)) for _ in range(RUNS)]
+    results = [run(PROGRAM, make(size), "copy") for _ in range(RUNS)]
     return results[0][0], [min(times) for times in zip(*(r[1] for r in results))], max(r[2] for r in results)
 
 
@@ -63,6 +80,12 @@ def main():
         failed |= bool(over)
         figures = f"{times[1]:7.3f} {half[1]:7.3f} {times[3]:7.3f} {half[3]:7.3f} {peak:6.0f}"
         print(f"{name:24} {figures}  {answer}{'   OVER THE LIMIT' if over else ''}")
+    print(f"\n{'memory without copies':24} {'MB':>6} {'limit':>6}  answer")
+    for name, make, limit in MEMORY_CASES:
+        answer, _, peak = run(PROGRAM, make())
+        over = peak > limit
+        failed |= over
+        print(f"{name:24} {peak:6.0f} {limit:6}  {answer}{'   OVER THE LIMIT' if over else ''}")
     return 1 if failed else 0
 
 

@@ -13,14 +13,14 @@ def limit_stack():
     resource.setrlimit(resource.RLIMIT_STACK, (STACK, STACK))
 
 
-def run(program, data):
+def run(program, data, *words):
     """What a program prints that writes its times in microseconds to standard error, those times in seconds, and the peak
-    memory in MB. It has a stack of 8 MB."""
+    memory in MB. It is given the words, and has a stack of 8 MB."""
     with tempfile.TemporaryFile() as script:
         script.write(data)
         script.seek(0)
         child = subprocess.Popen(
-            [program], stdin=script, stdout=subprocess.PIPE, stderr=subprocess.PIPE, preexec_fn=limit_stack
+            [program, *words], stdin=script, stdout=subprocess.PIPE, stderr=subprocess.PIPE, preexec_fn=limit_stack
         )
         out, err = child.stdout.read(), child.stderr.read()
         _, status, usage = os.wait4(child.pid, 0)

@@ -30,8 +30,8 @@ def text_of(parts):
     return bytes(made)
 
 
-def open_output(kind, folder):
-    """A file descriptor for standard output, or None where it is closed."""
+def open_output(kind, file):
+    """A file descriptor for what a program writes, or None where it is closed."""
     if kind == "closed":
         return None
     if kind == "full device":
@@ -40,7 +40,7 @@ def open_output(kind, folder):
         read_end, write_end = os.pipe()
         os.close(read_end)
         return write_end
-    return os.open(folder / "shown", os.O_WRONLY | os.O_CREAT | os.O_TRUNC)
+    return os.open(file, os.O_WRONLY | os.O_CREAT | os.O_TRUNC)
 
 
 def open_input(kind, script, folder):
@@ -57,11 +57,12 @@ def run_once(program, run, here):
     with tempfile.TemporaryDirectory() as name:
         beside = pathlib.Path(name)
         source = open_input(run.get("from", "file"), text_of(run.get("stdin", "")), beside)
-        target = open_output(run.get("to", "file"), beside)
+        target = open_output(run.get("to", "file"), beside / "shown")
+        errors = open_output(run.get("warns_to", "file"), beside / "warned")
 
         def prepare():
             resource.setrlimit(resource.RLIMIT_STACK, (STACK, STACK))
-            for number, stream in ((0, source), (1, target)):
+            for number, stream in ((0, source), (1, target), (2, errors)):
                 if stream is None:
                     os.close(number)
                 else:
@@ -69,17 +70,18 @@ def run_once(program, run, here):
 
         words = [bytes.fromhex(word) for word in run["words_hex"]] if "words_hex" in run else run.get("words", [])
         try:
-            done = subprocess.run([program, *words], cwd=here, stderr=subprocess.PIPE, preexec_fn=prepare, timeout=SECONDS)
+            done = subprocess.run([program, *words], cwd=here, preexec_fn=prepare, timeout=SECONDS)
         except subprocess.TimeoutExpired:
             return f"still runs after {SECONDS} s"
         finally:
-            for stream in (source, target):
+            for stream in (source, target, errors):
                 if stream is not None:
                     os.close(stream)
+        warned = (beside / "warned").read_bytes() if run.get("warns_to", "file") == "file" else b""
         if done.returncode != run.get("status", 0):
-            return f"status {done.returncode}, not {run.get('status', 0)}; warned {done.stderr!r}"
-        if done.stderr != run.get("stderr", "").encode():
-            return f"warned {done.stderr!r}"
+            return f"status {done.returncode}, not {run.get('status', 0)}; warned {warned!r}"
+        if warned != run.get("stderr", "").encode():
+            return f"warned {warned!r}"
         if run.get("to", "file") == "file":
             shown = (beside / "shown").read_bytes()
             if shown != text_of(run.get("stdout", "")):

@@ -1,4 +1,4 @@
-"""Checks SELECTs a second time: what a script comes to, as crates/check_table writes it.
+"""Checks SELECTs a second time: what a script comes to, as crates/test_check writes it.
 
 It is written from 'Names and types' in docs/LANGUAGE.md, not from the program. What is said of an expression is its
 kind and the expression with its names resolved, which tests/values evaluates.

@@ -1,5 +1,5 @@
 #!/usr/bin/env python3
-"""Runs the program crates/check_table over SELECTs: run.py PROGRAM. Its last line is 'N passed, N failed'.
+"""Runs the program crates/test_check over SELECTs: run.py PROGRAM. Its last line is 'N passed, N failed'.
 
 The outcomes of table.txt, of the operators with each pair of kinds, and of the pairs of refusals are written by hand or
 follow from lists that are, and reference.py is held against them too; of the random SELECTs reference.py says what they

@@ -1,5 +1,5 @@
 #!/usr/bin/env python3
-"""Reads the language a second time: what a script comes to, as crates/grammar_table writes it.
+"""Reads the language a second time: what a script comes to, as crates/test_grammar writes it.
 
 It is written from the grammar as docs/LANGUAGE.md tells it, not from the program. As a program it takes each line of
 standard input as a script and writes what it comes to on a line of its own.

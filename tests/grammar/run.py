@@ -1,5 +1,5 @@
 #!/usr/bin/env python3
-"""Runs the program crates/grammar_table over scripts: run.py PROGRAM. Its last line is 'N passed, N failed'.
+"""Runs the program crates/test_grammar over scripts: run.py PROGRAM. Its last line is 'N passed, N failed'.
 
 The outcomes of table.txt and of the bracket cases below are written by hand, and reference.py is held against them too;
 of the random scripts reference.py says what they come to. With --reference alone, the program is left out.
