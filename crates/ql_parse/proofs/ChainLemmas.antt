@@ -1,20 +1,21 @@
 -- The links of a chain.
-use Rattle.std.proofs.Common.{◌≡◌, ℕ, Bool, true, List, [], ◌∷◌, drop, refl}
+use Rattle.std.proofs.Common.{◌≡◌, ℕ, Bool, true, List, [], ◌∷◌, drop, refl, ap, ◌∙◌}
 use Rattle.ql_value.specs.declared.operator.BinOp.{BinOp}
 use Rattle.ql_value.specs.declared.operator.BinOp.TheVariants as bin
 use Rattle.ql_parse.specs.declared.fault.Fault.{Fault}
 use Rattle.ql_parse.specs.declared.level.Level.{Level}
+use Rattle.ql_parse.specs.declared.level.Level.TheVariants as l
 use Rattle.ql_syntax.specs.declared.syntax.Expr.{Expr}
 use Rattle.ql_syntax.specs.declared.syntax.Expr.TheVariants as e
 use Rattle.ql_syntax.specs.declared.syntax.Link.{Link, roll-Link}
 use Rattle.ql_syntax.specs.Lexemes.{Lexeme, sees, is_prefix}
 use Rattle.ql_value.specs.declared.operator.UnOp.{UnOp}
 use Rattle.ql_value.specs.declared.operator.UnOp.TheVariants as un
-use Rattle.ql_parse.specs.Levels.{is_op, part_of, next_op, next_un_op}
-use Rattle.ql_syntax.specs.Rules.{Rule, token, ◌then◌, the}
-use Rattle.ql_syntax.specs.Readings.{Parse, Reads, leaf, pair, cell, takes, both, in_second}
-use Rattle.ql_parse.specs.Parses.{Gives, Fails}
-use Rattle.ql_syntax.specs.Trees.{bin_op, un_op, chain, signed, expr_of, links_of, ops_of}
+use Rattle.ql_parse.specs.Levels.{is_op, part_of, links, chain_rule, chain_of, next_op, next_un_op}
+use Rattle.ql_syntax.specs.Rules.{Rule, token, ◌then◌, the, maybe, factor, predicate}
+use Rattle.ql_syntax.specs.Readings.{Parse, Reads, Stop, Stops, leaf, pair, cell, node, takes, both, by_rule, in_first, in_second}
+use Rattle.ql_parse.specs.Parses.{Gives, Fails, fault_of}
+use Rattle.ql_syntax.specs.Trees.{bin_op, un_op, chain, signed, expr_of, links_of, ops_of, tested_of}
 
 -- a link
 abbrev pub link_of : Parse → Link
@@ -64,3 +65,31 @@ same_chain e d = rw (e, d) refl
 -- equal parts with equal operators before them are equal
 pub same_signed : {os ps : List UnOp} {a b : Expr} → os ≡ ps → a ≡ b → signed os a ≡ signed ps b
 same_signed e d = rw (e, d) refl
+
+-- a chain means the same in the production that it is
+pub chain_tree : {n : ℕ} {x y : Rule} {old new : List Lexeme} (all : Parse → Expr) → ((a b : Parse) → chain_of (pair a b) ≡ all (pair a b)) → (a : Parse) → Reads n (x then y) old a new → chain_of a ≡ all a
+chain_tree all same _ (both h i) = same _ _
+
+gives_tested : {n : ℕ} {old mid new : List Lexeme} {part value : Expr} (a : Parse) → Reads n (chain_rule l.Comparison) old a mid → part ≡ chain_of a
+    → Gives n (maybe (the predicate)) (tested_of part) mid value new → Gives n (the factor) expr_of old value new
+gives_tested _ (both h i) e k = record { parse = node factor (pair _ (pair _ k.parse)); reads = by_rule (both h (both i k.reads)); means = k.means ∙ ap (λ q. tested_of q k.parse) e }
+
+-- a chain and the predicate behind it are a factor
+pub gives_factor : {n : ℕ} {old mid new : List Lexeme} {part value : Expr} → Gives n (chain_rule l.Comparison) chain_of old part mid
+    → Gives n (maybe (the predicate)) (tested_of part) mid value new → Gives n (the factor) expr_of old value new
+gives_factor h k = gives_tested h.parse h.reads h.means k
+
+stops_front : {n : ℕ} {x y z : Rule} {old : List Lexeme} {s : Stop} → Stops n (x then y) old s → Stops n (x then (y then z)) old s
+stops_front (in_first h) = in_first h
+stops_front (in_second h i) = in_second h (in_first i)
+
+-- what fails in the front of a sequence fails in all of it
+pub fails_front : {n : ℕ} {x y z : Rule} {old : List Lexeme} {d : Fault} → Fails n (x then y) old d → Fails n (x then (y then z)) old d
+fails_front h = record { stops = λ no. let s = h.stops no in (s.0, stops_front s.1, s.2) }
+
+stops_behind : {n : ℕ} {x y z : Rule} {old mid : List Lexeme} {a : Parse} {s : Stop} → Reads n (x then y) old a mid → Stops n z mid s → Stops n (x then (y then z)) old s
+stops_behind (both h i) k = in_second h (in_second i k)
+
+-- what fails behind the front of a sequence fails in all of it
+pub fails_behind : {n : ℕ} {x y z : Rule} {A : Type 0} {tree : Parse → A} {old mid : List Lexeme} {v : A} {d : Fault} → Gives n (x then y) tree old v mid → Fails n z mid d → Fails n (x then (y then z)) old d
+fails_behind h k = record { stops = λ no. let s = k.stops no in (s.0, stops_behind h.reads s.1, s.2) }

@@ -14,7 +14,7 @@ use Rattle.ql_syntax.specs.Rules.{Rule, the, statement, maybe, script, finish}
 use Rattle.ql_syntax.specs.Readings as r
 use Rattle.ql_syntax.specs.Readings.{Parse, leaf, pair, cell, stop, absent, present, Reads, Stop, Stops, unexpected, too_nested}
 use Rattle.ql_parse.specs.Parses.{Gives, Fails, Adds, fault_of}
-use Rattle.ql_parse.specs.ScriptFaults.{placed}
+use Rattle.ql_parse.specs.ScriptFaults.{parse_fault}
 use Rattle.ql_parse.specs.ScriptLaws.{ScriptLaws, Outcome, read, nested}
 use Rattle.ql_parse.specs.ScriptLaws as outcome
 use Rattle.ql_syntax.specs.Scripts.{limit, IsUnexpected, IsTooNested}
@@ -139,12 +139,12 @@ nested_at {ts = ts} count left i (too_nested here) c h e g =
     let j : count - left ≡ i = cc in
     record { here = here; stops = h; place = omega (arith, l, w, j, c) }
 
-pub is_unexpected : {ts : List Lexeme} (count i : ℕ) (d : Fault) → count ≡ length ts → Fails limit script ts d → placed count d ≡ p.Unexpected i → IsUnexpected ts i
+pub is_unexpected : {ts : List Lexeme} (count i : ℕ) (d : Fault) → count ≡ length ts → Fails limit script ts d → parse_fault count d ≡ p.Unexpected i → IsUnexpected ts i
 is_unexpected count i (f.Unexpected left) c h g = let s = h.stops (λ e. cc) in unexpected_at count left i s.0 c s.1 s.2 g
 is_unexpected count i (f.TooNested left) c h g = cc
 is_unexpected count i f.NoMemory c h g = cc
 
-pub is_nested : {ts : List Lexeme} (count i : ℕ) (d : Fault) → count ≡ length ts → Fails limit script ts d → placed count d ≡ p.TooNested i → IsTooNested ts i
+pub is_nested : {ts : List Lexeme} (count i : ℕ) (d : Fault) → count ≡ length ts → Fails limit script ts d → parse_fault count d ≡ p.TooNested i → IsTooNested ts i
 is_nested count i (f.Unexpected left) c h g = cc
 is_nested count i (f.TooNested left) c h g = let s = h.stops (λ e. cc) in nested_at count left i s.0 c s.1 s.2 g
 is_nested count i f.NoMemory c h g = cc
@@ -198,7 +198,7 @@ pub ok_no_stop : {ts new : List Lexeme} {ss : List Statement} {s : Stop} → Giv
 ok_no_stop h k = reads_or_stops h.reads k
 
 pub err_just_read : {ts : List Lexeme} (count : ℕ) (d : Fault) → Fails limit script ts d → (rs : List Statement) → IsRead ts rs
-    → ◌≡◌ {A = Result (List Statement) ParseFault} (Err (placed count d)) (Ok rs) ⊎ ◌≡◌ {A = Result (List Statement) ParseFault} (Err (placed count d)) (Err p.NoMemory)
+    → ◌≡◌ {A = Result (List Statement) ParseFault} (Err (parse_fault count d)) (Ok rs) ⊎ ◌≡◌ {A = Result (List Statement) ParseFault} (Err (parse_fault count d)) (Err p.NoMemory)
 err_just_read count (f.Unexpected left) h rs k = absurd (reads_or_stops k.reads (h.stops (λ e. cc)).1)
 err_just_read count (f.TooNested left) h rs k = absurd (reads_or_stops k.reads (h.stops (λ e. cc)).1)
 err_just_read count f.NoMemory h rs k = inr refl
@@ -224,7 +224,7 @@ no_unexpected_fault left (unexpected there) here e g = cc
 no_unexpected_fault left (too_nested there) here e g = cc
 
 pub err_just_unexpected : {ts : List Lexeme} (count : ℕ) (d : Fault) → count ≡ length ts → Fails limit script ts d → (i : ℕ) → IsUnexpected ts i
-    → ◌≡◌ {A = Result (List Statement) ParseFault} (Err (placed count d)) (Err (p.Unexpected i)) ⊎ ◌≡◌ {A = Result (List Statement) ParseFault} (Err (placed count d)) (Err p.NoMemory)
+    → ◌≡◌ {A = Result (List Statement) ParseFault} (Err (parse_fault count d)) (Err (p.Unexpected i)) ⊎ ◌≡◌ {A = Result (List Statement) ParseFault} (Err (parse_fault count d)) (Err p.NoMemory)
 err_just_unexpected count (f.Unexpected left) c h i k =
     let s = h.stops (λ e. cc) in
     inl (ap (λ (q : ℕ). Err (p.Unexpected q)) (fault_unexpected count left i s.0 k.here s.2 (one_stop s.1 k.stops) (k.place ∙ sym c)))
@@ -232,7 +232,7 @@ err_just_unexpected count (f.TooNested left) c h i k = let s = h.stops (λ e. cc
 err_just_unexpected count f.NoMemory c h i k = inr refl
 
 pub err_just_nested : {ts : List Lexeme} (count : ℕ) (d : Fault) → count ≡ length ts → Fails limit script ts d → (i : ℕ) → IsTooNested ts i
-    → ◌≡◌ {A = Result (List Statement) ParseFault} (Err (placed count d)) (Err (p.TooNested i)) ⊎ ◌≡◌ {A = Result (List Statement) ParseFault} (Err (placed count d)) (Err p.NoMemory)
+    → ◌≡◌ {A = Result (List Statement) ParseFault} (Err (parse_fault count d)) (Err (p.TooNested i)) ⊎ ◌≡◌ {A = Result (List Statement) ParseFault} (Err (parse_fault count d)) (Err p.NoMemory)
 err_just_nested count (f.Unexpected left) c h i k = let s = h.stops (λ e. cc) in absurd (no_unexpected_fault left s.0 k.here s.2 (one_stop s.1 k.stops))
 err_just_nested count (f.TooNested left) c h i k =
     let s = h.stops (λ e. cc) in

@@ -2,7 +2,7 @@
 use Rattle.std.proofs.Common.{◌≡◌, ℕ, Bool, List, refl}
 use Rattle.std.specs.Prelude.{Option}
 use Rattle.ql_parse.specs.declared.from.Sources.{Sources}
-use Rattle.ql_parse.specs.declared.select.Filtered.{Filtered}
+use Rattle.ql_parse.specs.declared.select.Tail.{Tail}
 use Rattle.ql_syntax.specs.declared.syntax.Expr.{Expr}
 use Rattle.ql_syntax.specs.declared.syntax.Field.{Field, roll-Field}
 use Rattle.ql_syntax.specs.declared.syntax.FromSet.{FromSet, roll-FromSet}
@@ -16,7 +16,7 @@ use Rattle.ql_parse.specs.Members.{subselect_of}
 use Rattle.ql_syntax.specs.Rules.{Rule, the, ref, expr, select, maybe, list, bracketed, subselect}
 use Rattle.ql_syntax.specs.Rules as rule
 use Rattle.ql_syntax.specs.Readings.{Parse, Reads, pair, right, present, node, group, both, first, second, left_out, entered, enclosed, by_rule}
-use Rattle.ql_parse.specs.Selects.{maybe_join_of, direction_rule, direction_of, filtered_rule, filtered_of, from_of}
+use Rattle.ql_parse.specs.Selects.{maybe_join_of, direction_rule, direction_of, tail_rule, tail_of, from_of}
 use Rattle.ql_syntax.specs.Trees.{source_of, join_of, exprs_of, behind_by, is_descending, is_present, fields_of, select_of}
 
 -- equal parts make equal fields, record sets and joins
@@ -60,24 +60,24 @@ pub same_sources : {a b : List FromSet} {x y : Option Join} → a ≡ b → x �
 same_sources e d = rw (e, d) refl
 
 -- what stands behind FROM, of its parts
-pub filtered_made : {w v : Option Expr} {g h : List Expr} {q r : (List Expr × Bool) × (Option Expr × Option Expr)} → w ≡ v → g ≡ h → q ≡ r
-    → ◌≡◌ {A = Filtered} (record { filter = w; groups = g; sorted = q }) (record { filter = v; groups = h; sorted = r })
-filtered_made e d f = rw (e, d, f) refl
+pub tail_made : {w v : Option Expr} {g h : List Expr} {q r : (List Expr × Bool) × (Option Expr × Option Expr)} → w ≡ v → g ≡ h → q ≡ r
+    → ◌≡◌ {A = Tail} (record { filter = w; groups = g; ending = q }) (record { filter = v; groups = h; ending = r })
+tail_made e d f = rw (e, d, f) refl
 
 -- a SELECT of its parts
-pub select_made : {n : ℕ} {ts rest : List Lexeme} {q : Parse} (k d s f : Parse) {distinct : Bool} {fields : List Field} (sources : Sources) (filtered : Filtered)
-    → Reads n filtered_rule ts q rest → distinct ≡ is_present d → fields ≡ fields_of s → sources ≡ from_of f → filtered ≡ filtered_of q
+pub select_made : {n : ℕ} {ts rest : List Lexeme} {q : Parse} (k d s f : Parse) {distinct : Bool} {fields : List Field} (sources : Sources) (tail : Tail)
+    → Reads n tail_rule ts q rest → distinct ≡ is_present d → fields ≡ fields_of s → sources ≡ from_of f → tail ≡ tail_of q
     → roll-Select (record {
       distinct = distinct;
       fields = fields;
       sets = sources.sets;
       join = sources.join;
-      filter = filtered.filter;
-      groups = filtered.groups;
-      keys = filtered.sorted.0.0;
-      descending = filtered.sorted.0.1;
-      limit = filtered.sorted.1.0;
-      offset = filtered.sorted.1.1;
+      filter = tail.filter;
+      groups = tail.groups;
+      keys = tail.ending.0.0;
+      descending = tail.ending.0.1;
+      limit = tail.ending.1.0;
+      offset = tail.ending.1.1;
     })
     ≡ select_of (node select (pair k (pair d (pair s (pair f q)))))
-select_made k d s f sources filtered (both h (both i (both j (both l m)))) e1 e2 e3 e4 = rw (e1, e2, e3, e4) refl
+select_made k d s f sources tail (both h (both i (both j (both l m)))) e1 e2 e3 e4 = rw (e1, e2, e3, e4) refl

@@ -15,7 +15,7 @@ use Rattle.ql_lex.specs.declared.words.Word.{Word}
 use Rattle.ql_syntax.specs.Rules.{creation, removal, alteration, before, bracketed}
 use Rattle.ql_parse.specs.Parses.{Gives, no_value}
 use Rattle.ql_syntax.specs.Readings.{Parse, Reads, leaf, takes_before, pair, left, right, group, node, both, first, second, enclosed}
-use Rattle.ql_parse.specs.StatementParts.{item_rule, one_item_of, table_rule, table_of, index_rule, index_of, made_rule, made_of, quiet_rule, quiet_of, change_rule, change_of}
+use Rattle.ql_parse.specs.StatementParts.{item_rule, one_item_of, table_rule, table_of, index_rule, index_of, table_or_index_rule, table_or_index_of, quiet_rule, quiet_of, change_rule, change_of}
 use Rattle.ql_syntax.specs.Statements.{item_of, creation_of, removal_of, alteration_of}
 use Rattle.ql_syntax.specs.declared.statement.Assign.{Assign}
 use Rattle.ql_syntax.specs.declared.statement.Item.{Item}
@@ -54,9 +54,9 @@ pub index_tree : {n : ℕ} {ts rest : List Lexeme} {a : Parse} (k : Parse) → R
 index_tree k (both h (both i (both j (both l (both m (both o p)))))) = refl
 
 -- what CREATE makes
-pub made_tree : {n : ℕ} {ts rest : List Lexeme} (k : Parse) (a : Parse) → Reads n made_rule ts a rest → made_of a ≡ creation_of (node creation (pair k a))
-made_tree k _ (first e h) = table_tree k h
-made_tree k _ (second f e h) = index_tree k h
+pub table_or_index_tree : {n : ℕ} {ts rest : List Lexeme} (k : Parse) (a : Parse) → Reads n table_or_index_rule ts a rest → table_or_index_of a ≡ creation_of (node creation (pair k a))
+table_or_index_tree k _ (first e h) = table_tree k h
+table_or_index_tree k _ (second f e h) = index_tree k h
 
 -- equal parts make equal statements
 pub same_table : {b b' : Bool} {n n' : List ℕ} {xs xs' : List ColumnDef} → b ≡ b' → n ≡ n' → xs ≡ xs' → s.CreateTable b n xs ≡ s.CreateTable b' n' xs'

@@ -9,9 +9,12 @@ use Rattle.ql_value.specs.declared.value.Kind.{Kind}
 use Rattle.ql_value.specs.declared.value.Kind.TheVariants as k
 use Rattle.ql_parse.specs.declared.level.Level.{Level}
 use Rattle.ql_parse.specs.declared.level.Level.TheVariants as l
+use Rattle.ql_syntax.specs.declared.syntax.Expr.{Expr}
+use Rattle.ql_syntax.specs.declared.syntax.Expr.TheVariants as e
 use Rattle.ql_syntax.specs.Lexemes.{Lexeme, is_either, is_both, is_comparison, is_sum, is_product}
 use Rattle.ql_syntax.specs.Rules.{Production, Rule, token, ◌then◌, many, the, term, factor, sum, product, unary}
-use Rattle.ql_syntax.specs.Trees.{bin_op, un_op, kind_named}
+use Rattle.ql_syntax.specs.Readings.{Parse, pair}
+use Rattle.ql_syntax.specs.Trees.{bin_op, un_op, kind_named, chain, expr_of, links_of}
 
 -- a token is an operator of a level
 abbrev pub is_op : Level → Lexeme → Bool
@@ -32,6 +35,15 @@ part_of l.Product = unary
 -- what stands behind the first part of a chain
 abbrev pub links : Level → Rule
 links level = many (token (is_op level) then the (part_of level))
+
+-- the parts of a level and the operators between them
+abbrev pub chain_rule : Level → Rule
+chain_rule level = the (part_of level) then links level
+
+-- what they are together
+abbrev pub chain_of : Parse → Expr
+chain_of (pair a b) = chain (expr_of a) (links_of b)
+chain_of _ = e.Null
 
 -- a token of a kind, without its spelling
 abbrev pub token_of : TokenKind → Lexeme

@@ -6,7 +6,7 @@ use Rattle.ql_parse.specs.declared.fault.ParseFault.{ParseFault}
 use Rattle.ql_parse.specs.declared.fault.ParseFault.TheVariants as p
 
 -- a fault told by the tokens that are left, told by the token's number
-abbrev pub placed : ℕ → Fault → ParseFault
-placed count (f.Unexpected left) = p.Unexpected (count - left)
-placed count (f.TooNested left) = p.TooNested (count - left)
-placed count f.NoMemory = p.NoMemory
+abbrev pub parse_fault : ℕ → Fault → ParseFault
+parse_fault count (f.Unexpected left) = p.Unexpected (count - left)
+parse_fault count (f.TooNested left) = p.TooNested (count - left)
+parse_fault count f.NoMemory = p.NoMemory

@@ -5,7 +5,7 @@ use Rattle.ql_lex.specs.declared.words.Word.TheVariants as w
 use Rattle.ql_syntax.specs.declared.syntax.Expr.{Expr}
 use Rattle.ql_syntax.specs.declared.syntax.Expr.TheVariants as e
 use Rattle.ql_parse.specs.declared.from.Sources.{Sources}
-use Rattle.ql_parse.specs.declared.select.Filtered.{Filtered}
+use Rattle.ql_parse.specs.declared.select.Tail.{Tail}
 use Rattle.ql_syntax.specs.declared.syntax.Join.{Join, roll-Join}
 use Rattle.ql_syntax.specs.declared.syntax.Side.TheVariants as side
 use Rattle.ql_syntax.specs.Rules.{Rule, the, expr, ref, set, word, mark, name, maybe, list, filter, join, subselect, bracketed, ◌then◌, ◌or◌}
@@ -77,17 +77,17 @@ limits_of (pair a b) = (option_of a, option_of b)
 limits_of _ = (None, None)
 
 -- the order and the limits
-abbrev pub sorted_rule : Rule
-sorted_rule = order_rule then limits_rule
+abbrev pub ending_rule : Rule
+ending_rule = order_rule then limits_rule
 
-abbrev pub sorted_of : Parse → (List Expr × Bool) × (Option Expr × Option Expr)
-sorted_of (pair a b) = (order_of a, limits_of b)
-sorted_of a = (order_of a, limits_of a)
+abbrev pub ending_of : Parse → (List Expr × Bool) × (Option Expr × Option Expr)
+ending_of (pair a b) = (order_of a, limits_of b)
+ending_of a = (order_of a, limits_of a)
 
 -- `[WHERE Expr]`, the groups, the order and the limits
-abbrev pub filtered_rule : Rule
-filtered_rule = maybe filter then group_rule then sorted_rule
+abbrev pub tail_rule : Rule
+tail_rule = maybe filter then group_rule then ending_rule
 
-abbrev pub filtered_of : Parse → Filtered
-filtered_of (pair a (pair b c)) = record { filter = option_of a; groups = behind_by b; sorted = sorted_of c }
-filtered_of a = record { filter = option_of a; groups = behind_by a; sorted = sorted_of a }
+abbrev pub tail_of : Parse → Tail
+tail_of (pair a (pair b c)) = record { filter = option_of a; groups = behind_by b; ending = ending_of c }
+tail_of a = record { filter = option_of a; groups = behind_by a; ending = ending_of a }

@@ -56,13 +56,13 @@ index_of (pair u (pair _ (pair q (pair n t)))) = s.CreateIndex (is_present u) (i
 index_of _ = s.Begin
 
 -- what stands behind CREATE
-abbrev pub made_rule : Rule
-made_rule = table_rule or index_rule
+abbrev pub table_or_index_rule : Rule
+table_or_index_rule = table_rule or index_rule
 
-abbrev pub made_of : Parse → Statement
-made_of (left a) = table_of a
-made_of (right a) = index_of a
-made_of _ = s.Begin
+abbrev pub table_or_index_of : Parse → Statement
+table_or_index_of (left a) = table_of a
+table_or_index_of (right a) = index_of a
+table_or_index_of _ = s.Begin
 
 -- a keyword, `[IF EXISTS]` and a name
 abbrev pub quiet_rule : Word → Rule

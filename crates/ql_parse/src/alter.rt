@@ -1,3 +1,5 @@
+//! DROP, TRUNCATE and ALTER TABLE.
+
 ghost use Rattle.ql_parse.specs.Nests.{Nests};
 ghost use Rattle.ql_parse.specs.Parses.{Answers, AnswersAnywhere};
 ghost use Rattle.ql_syntax.specs.Rules as rule;
@@ -15,7 +17,7 @@ use ql_syntax::{Expr, Select, Statement};
 use std::alloc::Global;
 
 /// A keyword, IF EXISTS or none of it, and a name.
-fn quietly(alloc: Global, cursor: &mut Cursor<'_>, word: Word) -> Result<(bool, Name), Fault>
+fn quiet_name(alloc: Global, cursor: &mut Cursor<'_>, word: Word) -> Result<(bool, Name), Fault>
     ensures { AnswersAnywhere (spec.quiet_rule word) spec.quiet_of cursor.old result cursor.new }
 {
     expect_word(cursor, word)?;
@@ -30,11 +32,11 @@ pub fn removal(alloc: Global, cursor: &mut Cursor<'_>) -> Result<Statement, Faul
 {
     expect_word(cursor, Word::Drop)?;
     if sees_word(cursor, Word::Table) {
-        let (quiet, table) = quietly(alloc, cursor, Word::Table)?;
+        let (quiet, table) = quiet_name(alloc, cursor, Word::Table)?;
         return Ok(Statement::DropTable { quiet, table });
     }
     if sees_word(cursor, Word::Index) {
-        let (quiet, index) = quietly(alloc, cursor, Word::Index)?;
+        let (quiet, index) = quiet_name(alloc, cursor, Word::Index)?;
         return Ok(Statement::DropIndex { quiet, index });
     }
     Err(unexpected(cursor))

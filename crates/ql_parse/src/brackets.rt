@@ -1,3 +1,5 @@
+//! What stands in brackets.
+
 ghost use Rattle.std.specs.Prelude.{◌≡◌, ℕ, ◌<◌, true, drop, OnOk, IfErr};
 ghost use Rattle.ql_syntax.specs.Lexemes as lexeme;
 ghost use Rattle.ql_parse.specs.Nests.{PartOf, ReadsInside};
@@ -38,7 +40,7 @@ pub trait Enclosed {
 }
 
 /// A part in brackets, which is parsed with room for one bracket less.
-pub fn bracketed<B: Enclosed, P: Fn(usize, &mut Cursor<'_>) -> Result<B::Part, Fault>>(
+pub fn in_brackets<B: Enclosed, P: Fn(usize, &mut Cursor<'_>) -> Result<B::Part, Fault>>(
     room: usize,
     cursor: &mut Cursor<'_>,
     part: P,

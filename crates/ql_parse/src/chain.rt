@@ -1,5 +1,7 @@
+//! Expressions by the levels of their operators.
+
 ghost use Rattle.std.specs.Prelude.{◌≡◌, IfOk};
-ghost use Rattle.ql_parse.specs.Levels.{links, part_of};
+ghost use Rattle.ql_parse.specs.Levels.{chain_of, chain_rule, links, part_of};
 ghost use Rattle.ql_syntax.specs.Lexemes.{is_prefix};
 ghost use Rattle.ql_syntax.specs.Rules as rule;
 ghost use Rattle.ql_parse.specs.Nests.{Nests, ReadsPart};
@@ -17,7 +19,7 @@ use ql_value::UnOps;
 use std::alloc::Global;
 
 /// A part with links behind it. One with none is that part.
-fn chained(alloc: Global, first: Expr, rest: Links) -> Result<Expr, NoMemory>
+fn make_chain(alloc: Global, first: Expr, rest: Links) -> Result<Expr, NoMemory>
     ensures { IfOk result (λ e. e ≡ chain first rest) }
 {
     if rest.is_empty() {
@@ -29,7 +31,7 @@ fn chained(alloc: Global, first: Expr, rest: Links) -> Result<Expr, NoMemory>
 }
 
 /// A part with operators before it. One with none is that part.
-fn prefixed(alloc: Global, ops: UnOps, part: Expr) -> Result<Expr, NoMemory>
+fn make_unary(alloc: Global, ops: UnOps, part: Expr) -> Result<Expr, NoMemory>
     ensures { IfOk result (λ e. e ≡ signed ops part) }
 {
     if ops.is_empty() {
@@ -77,14 +79,27 @@ impl<
         Ok(links)
     }
 
+    /// Parts of a level, and the operators between them.
+    fn chain<P: Fn(&mut Cursor<'_>) -> Result<Expr, Fault>>(
+        &self,
+        level: Level,
+        cursor: &mut Cursor<'_>,
+        part: P,
+    ) -> Result<Expr, Fault>
+        requires { ReadsPart self.now.room (rule.the (part_of level)) expr_of (P.pre part) (P.post part) }
+        ensures { Answers self.now.room (chain_rule level) chain_of cursor.old result cursor.new }
+    {
+        let first = part(cursor)?;
+        let rest = self.links(level, cursor, part)?;
+        Ok(make_chain(self.alloc, first, rest)?)
+    }
+
     /// An expression.
     pub fn expression(&self, cursor: &mut Cursor<'_>) -> Result<Expr, Fault>
         requires { Nests self.now.room (E.pre self.now.expr) (E.post self.now.expr) (S.pre self.now.select) (S.post self.now.select) }
         ensures { Answers self.now.room (rule.the rule.expr) expr_of cursor.old result cursor.new }
     {
-        let first = self.term(cursor)?;
-        let rest = self.links(Level::Either, cursor, |cursor| self.term(cursor))?;
-        Ok(chained(self.alloc, first, rest)?)
+        self.chain(Level::Either, cursor, |cursor| self.term(cursor))
     }
 
     /// An expression, on the heap.
@@ -100,19 +115,15 @@ impl<
         requires { Nests self.now.room (E.pre self.now.expr) (E.post self.now.expr) (S.pre self.now.select) (S.post self.now.select) }
         ensures { Answers self.now.room (rule.the rule.term) expr_of cursor.old result cursor.new }
     {
-        let first = self.factor(cursor)?;
-        let rest = self.links(Level::Both, cursor, |cursor| self.factor(cursor))?;
-        Ok(chained(self.alloc, first, rest)?)
+        self.chain(Level::Both, cursor, |cursor| self.factor(cursor))
     }
 
     fn factor(&self, cursor: &mut Cursor<'_>) -> Result<Expr, Fault>
         requires { Nests self.now.room (E.pre self.now.expr) (E.post self.now.expr) (S.pre self.now.select) (S.post self.now.select) }
         ensures { Answers self.now.room (rule.the rule.factor) expr_of cursor.old result cursor.new }
     {
-        let first = self.sum(cursor)?;
-        let rest = self.links(Level::Comparison, cursor, |cursor| self.sum(cursor))?;
-        let part = chained(self.alloc, first, rest)?;
-        Ok(self.tested(cursor, part)?)
+        let part = self.chain(Level::Comparison, cursor, |cursor| self.sum(cursor))?;
+        Ok(self.maybe_predicate(cursor, part)?)
     }
 
     /// A sum, the part of comparisons.
@@ -120,9 +131,7 @@ impl<
         requires { Nests self.now.room (E.pre self.now.expr) (E.post self.now.expr) (S.pre self.now.select) (S.post self.now.select) }
         ensures { Answers self.now.room (rule.the rule.sum) expr_of cursor.old result cursor.new }
     {
-        let first = self.product(cursor)?;
-        let rest = self.links(Level::Sum, cursor, |cursor| self.product(cursor))?;
-        Ok(chained(self.alloc, first, rest)?)
+        self.chain(Level::Sum, cursor, |cursor| self.product(cursor))
     }
 
     /// A sum, on the heap.
@@ -138,9 +147,7 @@ impl<
         requires { Nests self.now.room (E.pre self.now.expr) (E.post self.now.expr) (S.pre self.now.select) (S.post self.now.select) }
         ensures { Answers self.now.room (rule.the rule.product) expr_of cursor.old result cursor.new }
     {
-        let first = self.unary(cursor)?;
-        let rest = self.links(Level::Product, cursor, |cursor| self.unary(cursor))?;
-        Ok(chained(self.alloc, first, rest)?)
+        self.chain(Level::Product, cursor, |cursor| self.unary(cursor))
     }
 
     fn unary(&self, cursor: &mut Cursor<'_>) -> Result<Expr, Fault>
@@ -149,6 +156,6 @@ impl<
     {
         let ops = prefixes(self.alloc, cursor)?;
         let part = self.primary(cursor)?;
-        Ok(prefixed(self.alloc, ops, part)?)
+        Ok(make_unary(self.alloc, ops, part)?)
     }
 }

@@ -1,3 +1,5 @@
+//! The columns of a CREATE TABLE or ADD.
+
 ghost use Rattle.std.specs.Prelude.{◌<◌};
 ghost use Rattle.ql_syntax.specs.Lexemes.{is_kind};
 ghost use Rattle.ql_parse.specs.Nests.{Nests};

@@ -1,3 +1,5 @@
+//! CREATE TABLE and CREATE INDEX.
+
 ghost use Rattle.std.specs.Prelude.{◌≡◌};
 ghost use Rattle.ql_syntax.specs.Lexemes.{sees_two, is_id, is_open};
 ghost use Rattle.ql_parse.specs.Nests.{Nests};
@@ -7,7 +9,7 @@ ghost use Rattle.ql_parse.specs.StatementLists as lists;
 ghost use Rattle.ql_parse.specs.StatementParts as spec;
 ghost use Rattle.ql_syntax.specs.Statements.{creation_of};
 
-use crate::brackets::{Enclosed, bracketed};
+use crate::brackets::{Enclosed, in_brackets};
 use crate::cursor::Cursor;
 use crate::exists::unless_exists;
 use crate::fault::Fault;
@@ -69,10 +71,10 @@ fn sees_id(cursor: &Cursor<'_>) -> bool
 fn begins_index(cursor: &Cursor<'_>) -> bool
     ensures { result ≡ rule.enters spec.index_rule cursor.now }
 {
-    match cursor.kind() {
-        Some(TokenKind::Word(Word::Unique | Word::Index)) => true,
-        _ => false,
-    }
+    matches!(
+        cursor.kind(),
+        Some(TokenKind::Word(Word::Unique | Word::Index))
+    )
 }
 
 /// What an index orders by, inside its brackets.
@@ -81,7 +83,7 @@ fn one_item(alloc: Global, room: usize, cursor: &mut Cursor<'_>) -> Result<Item,
 {
     if sees_id(cursor) {
         cursor.skip();
-        bracketed::<Empty, _>(room, cursor, |_, cursor| nothing(cursor))?;
+        in_brackets::<Empty, _>(room, cursor, |_, cursor| nothing(cursor))?;
         return Ok(Item::Id);
     }
     let name = expect_name(alloc, cursor)?;
@@ -94,7 +96,7 @@ fn target(alloc: Global, room: usize, cursor: &mut Cursor<'_>) -> Result<(Name, 
 {
     expect_word(cursor, Word::On)?;
     let table = expect_name(alloc, cursor)?;
-    let item = bracketed::<IndexItem, _>(room, cursor, |room, cursor| {
+    let item = in_brackets::<IndexItem, _>(room, cursor, |room, cursor| {
         one_item(alloc, room, cursor)
     })?;
     let item = Boxed::new(alloc, item)?;
@@ -131,7 +133,7 @@ impl<
         expect_word(cursor, Word::Table)?;
         let quiet = unless_exists(cursor)?;
         let table = expect_name(self.alloc, cursor)?;
-        let columns = bracketed::<Columns, _>(self.room, cursor, |room, cursor| {
+        let columns = in_brackets::<Columns, _>(self.room, cursor, |room, cursor| {
             self.column_defs(room, cursor)
         })?;
         Ok(Statement::CreateTable {
@@ -142,9 +144,9 @@ impl<
     }
 
     /// What stands behind CREATE.
-    fn made(&self, cursor: &mut Cursor<'_>) -> Result<Statement, Fault>
+    fn table_or_index(&self, cursor: &mut Cursor<'_>) -> Result<Statement, Fault>
         requires { Nests self.now.room (E.pre self.now.expr) (E.post self.now.expr) (S.pre self.now.select) (S.post self.now.select) }
-        ensures { Answers self.now.room spec.made_rule spec.made_of cursor.old result cursor.new }
+        ensures { Answers self.now.room spec.table_or_index_rule spec.table_or_index_of cursor.old result cursor.new }
     {
         if sees_word(cursor, Word::Table) {
             return self.create_table(cursor);
@@ -161,6 +163,6 @@ impl<
         ensures { Answers self.now.room (rule.the rule.creation) creation_of cursor.old result cursor.new }
     {
         expect_word(cursor, Word::Create)?;
-        self.made(cursor)
+        self.table_or_index(cursor)
     }
 }

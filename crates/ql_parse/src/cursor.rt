@@ -1,3 +1,5 @@
+//! The tokens that are left to read.
+
 ghost use Rattle.std.specs.Prelude.{◌≡◌, [], ◌∷◌, length, drop, reverse, All, IfOk, IsTrue, MatchOption};
 ghost use Rattle.ql_lex.specs.Meaning.{text_value};
 ghost use Rattle.ql_lex.specs.Numbers.{number_value};

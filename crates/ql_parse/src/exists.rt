@@ -1,3 +1,5 @@
+//! IF EXISTS and IF NOT EXISTS.
+
 ghost use Rattle.ql_parse.specs.Parses.{AnswersAnywhere};
 ghost use Rattle.ql_syntax.specs.Rules as rule;
 ghost use Rattle.ql_syntax.specs.Trees.{is_present};

@@ -1,7 +1,9 @@
+//! Why tokens are no script.
+
 ghost use Rattle.std.specs.Prelude.{◌≡◌};
 ghost use Rattle.ql_parse.specs.declared.fault.Fault.TheVariants as variant;
 ghost use Rattle.ql_parse.specs.declared.fault.ParseFault.TheVariants as public;
-ghost use Rattle.ql_parse.specs.ScriptFaults.{placed};
+ghost use Rattle.ql_parse.specs.ScriptFaults.{parse_fault};
 
 use ql_edge::NoMemory;
 
@@ -37,8 +39,8 @@ pub enum Fault {
 
 impl Fault {
     /// The fault of a script of so many tokens.
-    pub fn placed(self, count: usize) -> ParseFault
-        ensures { result ≡ placed count self }
+    pub fn parse_fault(self, count: usize) -> ParseFault
+        ensures { result ≡ parse_fault count self }
     {
         match self {
             Fault::Unexpected(left) => ParseFault::Unexpected(count.saturating_sub(left) as u64),

@@ -1,10 +1,12 @@
+//! The fields of a SELECT, and what stands behind FROM.
+
 ghost use Rattle.ql_parse.specs.Nests.{Nests};
 ghost use Rattle.ql_parse.specs.Parses.{Answers, AnswersAnywhere};
 ghost use Rattle.ql_syntax.specs.Rules as rule;
 ghost use Rattle.ql_parse.specs.Selects as spec;
 ghost use Rattle.ql_syntax.specs.Trees.{alias_of, field_of, fields_of, set_of, side_of, source_of};
 
-use crate::brackets::{Subselect, bracketed};
+use crate::brackets::{Subselect, in_brackets};
 use crate::cursor::Cursor;
 use crate::fault::Fault;
 use crate::kinds::{begins_expr, begins_join};
@@ -97,7 +99,7 @@ impl<
         if !sees_mark(cursor, Mark::Open) {
             return Err(unexpected(cursor));
         }
-        let query = bracketed::<Subselect, _>(self.room, cursor, |room, cursor| {
+        let query = in_brackets::<Subselect, _>(self.room, cursor, |room, cursor| {
             self.subselect(room, cursor)
         })?;
         Ok(SetSource::Query(Boxed::new(self.alloc, query)?))

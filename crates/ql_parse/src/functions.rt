@@ -1,3 +1,5 @@
+//! The functions that an expression calls, by their names.
+
 ghost use Rattle.std.specs.Prelude.{◌≡◌, true, false, None, ◌||◌, IfSome, IfNone};
 ghost use Rattle.std.specs.Str.{bytes_eq};
 ghost use Rattle.ql_syntax.specs.Lexemes.{is_count, is_function};
@@ -51,8 +53,5 @@ pub fn function_of(text: &[u8]) -> Option<Function>
 pub fn is_count(function: Function) -> bool
     ensures { result ≡ is_count_function function }
 {
-    match function {
-        Function::Count => true,
-        _ => false,
-    }
+    matches!(function, Function::Count)
 }

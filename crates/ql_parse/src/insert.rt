@@ -1,3 +1,5 @@
+//! INSERT.
+
 ghost use Rattle.ql_parse.specs.Nests.{Nests};
 ghost use Rattle.ql_parse.specs.Parses.{Answers};
 ghost use Rattle.ql_syntax.specs.Rules as rule;
@@ -5,7 +7,7 @@ ghost use Rattle.ql_parse.specs.StatementLists as lists;
 ghost use Rattle.ql_parse.specs.StatementParts as spec;
 ghost use Rattle.ql_syntax.specs.Statements.{insertion_of, names_of, row_of, source_of};
 
-use crate::brackets::{Enclosed, bracketed};
+use crate::brackets::{Enclosed, in_brackets};
 use crate::cursor::Cursor;
 use crate::fault::Fault;
 use crate::list::{Listed, list};
@@ -74,7 +76,7 @@ fn column_names(alloc: Global, room: usize, cursor: &mut Cursor<'_>) -> Result<N
     if !sees_mark(cursor, Mark::Open) {
         return Ok(Names::new(alloc));
     }
-    bracketed::<ColumnNames, _>(room, cursor, |room, cursor| names(alloc, room, cursor))
+    in_brackets::<ColumnNames, _>(room, cursor, |room, cursor| names(alloc, room, cursor))
 }
 
 impl<
@@ -86,7 +88,7 @@ impl<
         requires { Nests self.now.room (E.pre self.now.expr) (E.post self.now.expr) (S.pre self.now.select) (S.post self.now.select) }
         ensures { Answers self.now.room spec.row_rule row_of cursor.old result cursor.new }
     {
-        bracketed::<Row, _>(self.room, cursor, |room, cursor| self.exprs(room, cursor))
+        in_brackets::<Row, _>(self.room, cursor, |room, cursor| self.exprs(room, cursor))
     }
 
     /// Where an INSERT takes its rows from.

@@ -1,3 +1,5 @@
+//! What the next token is or can begin.
+
 ghost use Rattle.std.specs.Prelude.{◌≡◌, true, false, [], ◌∷◌, MatchOption};
 ghost use Rattle.ql_lex.specs.declared.token.TokenKind.TheVariants as kind;
 ghost use Rattle.ql_syntax.specs.Lexemes as spec;
@@ -77,10 +79,10 @@ pub fn next_prefix(cursor: &Cursor<'_>) -> Option<UnOp>
 fn begins_by_mark(mark: Mark) -> bool
     ensures { result ≡ begins_expr (token_of (kind.Mark mark) ∷ []) }
 {
-    match mark {
-        Mark::Plus | Mark::Minus | Mark::Bang | Mark::Caret | Mark::Open => true,
-        _ => false,
-    }
+    matches!(
+        mark,
+        Mark::Plus | Mark::Minus | Mark::Bang | Mark::Caret | Mark::Open
+    )
 }
 
 fn begins_by_word(word: Word) -> bool
@@ -108,40 +110,40 @@ pub fn begins_expr(cursor: &Cursor<'_>) -> bool
 pub fn begins_membership(cursor: &Cursor<'_>) -> bool
     ensures { result ≡ enters membership_rule cursor.now }
 {
-    match cursor.kind() {
-        Some(TokenKind::Word(Word::Not | Word::In | Word::Between)) => true,
-        _ => false,
-    }
+    matches!(
+        cursor.kind(),
+        Some(TokenKind::Word(Word::Not | Word::In | Word::Between))
+    )
 }
 
 /// Whether a join can begin at the next token.
 pub fn begins_join(cursor: &Cursor<'_>) -> bool
     ensures { result ≡ enters join cursor.now }
 {
-    match cursor.kind() {
-        Some(TokenKind::Word(Word::Left | Word::Right | Word::Full)) => true,
-        _ => false,
-    }
+    matches!(
+        cursor.kind(),
+        Some(TokenKind::Word(Word::Left | Word::Right | Word::Full))
+    )
 }
 
 /// Whether a record set can begin at the next token.
 pub fn begins_set(cursor: &Cursor<'_>) -> bool
     ensures { result ≡ enters (the set) cursor.now }
 {
-    match cursor.kind() {
-        Some(TokenKind::Name | TokenKind::Mark(Mark::Open)) => true,
-        _ => false,
-    }
+    matches!(
+        cursor.kind(),
+        Some(TokenKind::Name | TokenKind::Mark(Mark::Open))
+    )
 }
 
 /// Whether a statement can begin at the next token.
 pub fn begins_statement(cursor: &Cursor<'_>) -> bool
     ensures { result ≡ enters (the statement) cursor.now }
 {
-    match cursor.kind() {
-        Some(
-            TokenKind::Word(
-                Word::Begin
+    matches!(
+        cursor.kind(),
+        Some(TokenKind::Word(
+            Word::Begin
                 | Word::Commit
                 | Word::Rollback
                 | Word::Select
@@ -151,9 +153,7 @@ pub fn begins_statement(cursor: &Cursor<'_>) -> bool
                 | Word::Truncate
                 | Word::Insert
                 | Word::Update
-                | Word::Delete,
-            ),
-        ) => true,
-        _ => false,
-    }
+                | Word::Delete
+        ))
+    )
 }

@@ -1,3 +1,5 @@
+//! The operators of each level.
+
 ghost use Rattle.std.specs.Prelude.{◌≡◌, true, false, List, ℕ, MatchOption};
 ghost use Rattle.ql_syntax.specs.Lexemes as spec;
 ghost use Rattle.ql_parse.specs.Levels.{is_op, next_op, token_of};

@@ -1,3 +1,5 @@
+//! Lists with commas.
+
 ghost use Rattle.std.specs.Prelude.{◌≡◌};
 ghost use Rattle.ql_parse.specs.Nests.{ListOf, ReadsPart};
 ghost use Rattle.ql_parse.specs.Parses.{Answers};

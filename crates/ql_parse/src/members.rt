@@ -1,3 +1,5 @@
+//! The members of an IN.
+
 use ql_syntax::{Exprs, Select};
 
 /// The members of an IN.

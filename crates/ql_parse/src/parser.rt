@@ -1,3 +1,5 @@
+//! What each function of the parser is given.
+
 use std::alloc::Global;
 
 /// Parses what stands in a script with room for so many more open brackets.

@@ -1,3 +1,5 @@
+//! IS NULL, IN and BETWEEN.
+
 ghost use Rattle.std.specs.Prelude.{◌≡◌, ◌<◌, ℕ};
 ghost use Rattle.ql_lex.specs.declared.words.Word.TheVariants as w;
 ghost use Rattle.ql_parse.specs.Enclosed.{members, subselect};
@@ -8,7 +10,7 @@ ghost use Rattle.ql_syntax.specs.Rules as rule;
 ghost use Rattle.ql_syntax.specs.Rules.{◌then◌, ◌or◌};
 ghost use Rattle.ql_syntax.specs.Trees.{select_of, tested_of};
 
-use crate::brackets::{InnerMembers, bracketed};
+use crate::brackets::{InnerMembers, in_brackets};
 use crate::cursor::Cursor;
 use crate::fault::Fault;
 use crate::kinds::{begins_expr, begins_membership};
@@ -76,7 +78,7 @@ impl<
         ensures { Answers self.now.room member_rule (member_of part not) cursor.old result cursor.new }
     {
         expect_word(cursor, Word::In)?;
-        let members = bracketed::<InnerMembers, _>(self.room, cursor, |room, cursor| {
+        let members = in_brackets::<InnerMembers, _>(self.room, cursor, |room, cursor| {
             self.members(room, cursor)
         })?;
         let part = Boxed::new(self.alloc, part)?;
@@ -128,7 +130,7 @@ impl<
     }
 
     /// A part, with the predicate behind it if there is one.
-    pub fn tested(&self, cursor: &mut Cursor<'_>, part: Expr) -> Result<Expr, Fault>
+    pub fn maybe_predicate(&self, cursor: &mut Cursor<'_>, part: Expr) -> Result<Expr, Fault>
         requires { Nests self.now.room (E.pre self.now.expr) (E.post self.now.expr) (S.pre self.now.select) (S.post self.now.select) }
         ensures { Answers self.now.room (rule.maybe (rule.the rule.predicate)) (tested_of part) cursor.old result cursor.new }
     {

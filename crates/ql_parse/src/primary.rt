@@ -1,3 +1,5 @@
+//! The parts between operators: literals, columns, calls, conversions and brackets.
+
 ghost use Rattle.std.specs.Prelude.{◌≡◌, ◌<◌, Some};
 ghost use Rattle.ql_lex.specs.declared.words.Word.{Word};
 ghost use Rattle.ql_lex.specs.declared.token.TokenKind.TheVariants as kind;
@@ -10,7 +12,7 @@ ghost use Rattle.ql_syntax.specs.Rules as rule;
 ghost use Rattle.ql_syntax.specs.Rules.{◌then◌, ◌or◌};
 ghost use Rattle.ql_syntax.specs.Trees.{expr_of, exprs_of};
 
-use crate::brackets::{CountParts, InnerExpr, Parts, bracketed};
+use crate::brackets::{CountParts, InnerExpr, Parts, in_brackets};
 use crate::cursor::Cursor;
 use crate::fault::Fault;
 use crate::functions::{function_of, is_count};
@@ -97,7 +99,7 @@ impl<
     }
 
     /// A name at the next token: a call, where it is that of a function directly before `(`, else a column.
-    fn named(&self, cursor: &mut Cursor<'_>) -> Result<Expr, Fault>
+    fn column_or_call(&self, cursor: &mut Cursor<'_>) -> Result<Expr, Fault>
         requires nests { Nests self.now.room (E.pre self.now.expr) (E.post self.now.expr) (S.pre self.now.select) (S.post self.now.select) }
         requires name { kind_at cursor.old ≡ Some kind.Name }
         ensures { Answers self.now.room (rule.the rule.primary) expr_of cursor.old result cursor.new }
@@ -121,7 +123,7 @@ impl<
         requires { Nests self.now.room (E.pre self.now.expr) (E.post self.now.expr) (S.pre self.now.select) (S.post self.now.select) }
         ensures { AnswersEnclosed self.now.room count_parts.rule count_call_of cursor.old result cursor.new }
     {
-        let (star, parts) = bracketed::<CountParts, _>(self.room, cursor, |room, cursor| {
+        let (star, parts) = in_brackets::<CountParts, _>(self.room, cursor, |room, cursor| {
             self.count_parts(room, cursor)
         })?;
         Ok(Expr::Call {
@@ -136,7 +138,7 @@ impl<
         requires { Nests self.now.room (E.pre self.now.expr) (E.post self.now.expr) (S.pre self.now.select) (S.post self.now.select) }
         ensures { AnswersEnclosed self.now.room parts.rule (call_of function) cursor.old result cursor.new }
     {
-        let parts = bracketed::<Parts, _>(self.room, cursor, |room, cursor| {
+        let parts = in_brackets::<Parts, _>(self.room, cursor, |room, cursor| {
             self.parts(room, cursor)
         })?;
         Ok(Expr::Call {
@@ -147,7 +149,7 @@ impl<
     }
 
     /// A keyword at the next token: a literal or a conversion.
-    fn keyed(&self, cursor: &mut Cursor<'_>) -> Result<Expr, Fault>
+    fn literal_or_conversion(&self, cursor: &mut Cursor<'_>) -> Result<Expr, Fault>
         requires nests { Nests self.now.room (E.pre self.now.expr) (E.post self.now.expr) (S.pre self.now.select) (S.post self.now.select) }
         requires word { (a : Word) × (kind_at cursor.old ≡ Some (kind.Word a)) }
         ensures { Answers self.now.room (rule.the rule.primary) expr_of cursor.old result cursor.new }
@@ -177,7 +179,7 @@ impl<
         requires { Nests self.now.room (E.pre self.now.expr) (E.post self.now.expr) (S.pre self.now.select) (S.post self.now.select) }
         ensures { AnswersEnclosed self.now.room (rule.the rule.expr) expr_of cursor.old result cursor.new }
     {
-        let part = bracketed::<InnerExpr, _>(self.room, cursor, |room, cursor| {
+        let part = in_brackets::<InnerExpr, _>(self.room, cursor, |room, cursor| {
             self.inner_expr(room, cursor)
         })?;
         Ok(Boxed::new(self.alloc, part)?)
@@ -202,8 +204,8 @@ impl<
                 cursor.skip();
                 Ok(Expr::Text(text))
             }
-            TokenKind::Name => self.named(cursor),
-            TokenKind::Word(_) => self.keyed(cursor),
+            TokenKind::Name => self.column_or_call(cursor),
+            TokenKind::Word(_) => self.literal_or_conversion(cursor),
             TokenKind::Mark(_) => {
                 if !sees_mark(cursor, Mark::Open) {
                     return Err(unexpected(cursor));

@@ -1,3 +1,5 @@
+//! Statements, and scripts of them.
+
 ghost use Rattle.std.specs.Prelude.{◌≡◌, ◌⊎◌, ◌++◌, ℕ, List, Ok, Err, IfOk, OnOk, IfErr};
 ghost use Rattle.ql_lex.specs.Tokens.{Reads};
 ghost use Rattle.ql_parse.specs.Later.{later_rule, listed, maybe_statement_of};
@@ -15,7 +17,7 @@ ghost use Rattle.ql_syntax.specs.declared.statement.Statement.{Statement};
 use crate::cursor::Cursor;
 use crate::fault::{Fault, ParseFault};
 use crate::kinds::begins_statement;
-use crate::knot::{expr, select};
+use crate::nested::{expr, select};
 use crate::parser::Parser;
 use crate::steps::{eat_mark, unexpected};
 use ql_edge::NoMemory;
@@ -52,7 +54,7 @@ impl<
     }
 
     /// Adds the statements behind semicolons.
-    fn later(&self, cursor: &mut Cursor<'_>, found: &mut Statements) -> Result<(), Fault>
+    fn add_later(&self, cursor: &mut Cursor<'_>, found: &mut Statements) -> Result<(), Fault>
         requires { Nests self.now.room (E.pre self.now.expr) (E.post self.now.expr) (S.pre self.now.select) (S.post self.now.select) }
         ensures ok { OnOk result (Adds self.now.room later_rule later_of cursor.old found.old cursor.new found.new) }
         ensures err { IfErr result (Fails self.now.room later_rule cursor.old) }
@@ -78,7 +80,7 @@ fn statements(alloc: Global, cursor: &mut Cursor<'_>) -> Result<Statements, Faul
     let mut found = Statements::new(alloc);
     let first = parser.maybe_statement(cursor)?;
     add(&mut found, first)?;
-    parser.later(cursor, &mut found)?;
+    parser.add_later(cursor, &mut found)?;
     if cursor.left() > 0 {
         return Err(unexpected(cursor));
     }
@@ -107,6 +109,6 @@ pub fn script(alloc: Global, source: &[u8], tokens: Tokens) -> Result<Statements
     let mut cursor = Cursor::new(source, tokens);
     match statements(alloc, &mut cursor) {
         Ok(found) => Ok(found),
-        Err(fault) => Err(fault.placed(count)),
+        Err(fault) => Err(fault.parse_fault(count)),
     }
 }

@@ -1,3 +1,5 @@
+//! SELECT.
+
 ghost use Rattle.std.specs.Prelude.{ℕ};
 ghost use Rattle.ql_parse.specs.Nests.{Nests};
 ghost use Rattle.ql_parse.specs.Parses.{Answers, Gives};
@@ -17,14 +19,14 @@ use ql_syntax::{Expr, Exprs, Select};
 use std::alloc::Global;
 
 /// ORDER BY and its direction, and behind them LIMIT and OFFSET.
-type Sorted = ((Exprs, bool), (Option<Boxed<Expr>>, Option<Boxed<Expr>>));
+type Ending = ((Exprs, bool), (Option<Boxed<Expr>>, Option<Boxed<Expr>>));
 
 /// What stands behind FROM and its record sets.
 #[derive(Drop)]
-pub struct Filtered {
+pub struct Tail {
     pub filter: Option<Boxed<Expr>>,
     pub groups: Exprs,
-    pub sorted: Sorted,
+    pub ending: Ending,
 }
 
 /// ASC, DESC or nothing: whether it is DESC.
@@ -89,9 +91,9 @@ impl<
     }
 
     /// What stands behind WHERE and GROUP BY.
-    fn sorted(&self, cursor: &mut Cursor<'_>) -> Result<Sorted, Fault>
+    fn ending(&self, cursor: &mut Cursor<'_>) -> Result<Ending, Fault>
         requires { Nests self.now.room (E.pre self.now.expr) (E.post self.now.expr) (S.pre self.now.select) (S.post self.now.select) }
-        ensures { Answers self.now.room spec.sorted_rule spec.sorted_of cursor.old result cursor.new }
+        ensures { Answers self.now.room spec.ending_rule spec.ending_of cursor.old result cursor.new }
     {
         let order = self.order(cursor)?;
         let limits = self.limits(cursor)?;
@@ -99,17 +101,17 @@ impl<
     }
 
     /// WHERE, and what stands behind it.
-    fn filtered(&self, cursor: &mut Cursor<'_>) -> Result<Filtered, Fault>
+    fn tail(&self, cursor: &mut Cursor<'_>) -> Result<Tail, Fault>
         requires { Nests self.now.room (E.pre self.now.expr) (E.post self.now.expr) (S.pre self.now.select) (S.post self.now.select) }
-        ensures { Answers self.now.room spec.filtered_rule spec.filtered_of cursor.old result cursor.new }
+        ensures { Answers self.now.room spec.tail_rule spec.tail_of cursor.old result cursor.new }
     {
         let filter = self.clause(cursor, Word::Where)?;
         let groups = groups(self.alloc, self.room, cursor)?;
-        let sorted = self.sorted(cursor)?;
-        Ok(Filtered {
+        let ending = self.ending(cursor)?;
+        Ok(Tail {
             filter,
             groups,
-            sorted,
+            ending,
         })
     }
 
@@ -122,15 +124,15 @@ impl<
         let distinct = eat_word(cursor, Word::Distinct);
         let fields = self.fields(cursor)?;
         let sources = self.from(cursor)?;
-        let filtered = self.filtered(cursor)?;
-        let ((keys, descending), (limit, offset)) = filtered.sorted;
+        let tail = self.tail(cursor)?;
+        let ((keys, descending), (limit, offset)) = tail.ending;
         Ok(Select {
             distinct,
             fields,
             sets: sources.sets,
             join: sources.join,
-            filter: filtered.filter,
-            groups: filtered.groups,
+            filter: tail.filter,
+            groups: tail.groups,
             keys,
             descending,
             limit,

@@ -1,3 +1,5 @@
+//! A statement, by its first keyword.
+
 ghost use Rattle.std.specs.Prelude.{◌≡◌, None, Some};
 ghost use Rattle.ql_lex.specs.declared.token.TokenKind.TheVariants as kind;
 ghost use Rattle.ql_syntax.specs.Lexemes.{kind_at};
@@ -30,7 +32,7 @@ impl<
     S: Fn(Global, usize, &mut Cursor<'_>) -> Result<Select, Fault> + Copy,
 > Parser<E, S> {
     /// A statement that begins with a keyword, the next token.
-    fn worded(&self, cursor: &mut Cursor<'_>, word: Word) -> Result<Statement, Fault>
+    fn statement_by_word(&self, cursor: &mut Cursor<'_>, word: Word) -> Result<Statement, Fault>
         requires nests { Nests self.now.room (E.pre self.now.expr) (E.post self.now.expr) (S.pre self.now.select) (S.post self.now.select) }
         requires next { kind_at cursor.old ≡ Some (kind.Word word) }
         ensures { Answers self.now.room (rule.the rule.statement) statement_of cursor.old result cursor.new }
@@ -66,7 +68,7 @@ impl<
             return Err(unexpected(cursor));
         };
         match kind {
-            TokenKind::Word(word) => self.worded(cursor, word),
+            TokenKind::Word(word) => self.statement_by_word(cursor, word),
             _ => Err(unexpected(cursor)),
         }
     }

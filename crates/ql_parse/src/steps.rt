@@ -1,3 +1,5 @@
+//! The steps over single tokens.
+
 ghost use Rattle.std.specs.Prelude.{◌≡◌, ℕ, true, false, length, drop};
 ghost use Rattle.ql_syntax.specs.Lexemes as spec;
 ghost use Rattle.ql_syntax.specs.Rules as rule;
@@ -42,10 +44,7 @@ pub fn sees_mark(cursor: &Cursor<'_>, mark: Mark) -> bool
 pub fn sees_name(cursor: &Cursor<'_>) -> bool
     ensures { result ≡ spec.sees spec.is_name cursor.now }
 {
-    match cursor.kind() {
-        Some(TokenKind::Name) => true,
-        _ => false,
-    }
+    matches!(cursor.kind(), Some(TokenKind::Name))
 }
 
 /// Takes a keyword.

@@ -1,3 +1,5 @@
+//! UPDATE and DELETE.
+
 ghost use Rattle.ql_parse.specs.Nests.{Nests};
 ghost use Rattle.ql_parse.specs.Parses.{Answers};
 ghost use Rattle.ql_syntax.specs.Rules as rule;

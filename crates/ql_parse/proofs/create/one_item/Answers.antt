@@ -7,16 +7,16 @@ use Rattle.ql_parse.proofs.StepLemmas.{exits}
 use Rattle.ql_parse.proofs.Sequences.{fails_second, fails_left}
 use Rattle.ql_parse.proofs.create.one_item.Goals as goal
 
-pub returns-in_err-bracketed : goal.returns-in_err-bracketed
-returns-in_err-bracketed c =
+pub returns-in_err-in_brackets : goal.returns-in_err-in_brackets
+returns-in_err-in_brackets c =
     let seen = sym c.sees_id.ensures ∙ c.if-sees_id.true in
-    exits _ _ _ _ c.from_residual.ensures.1 (fails_left seen (fails_second (taken_before c.args.room seen c.skip.ensures) c.in_err-bracketed.ensures))
+    exits _ _ _ _ c.from_residual.ensures.1 (fails_left seen (fails_second (taken_before c.args.room seen c.skip.ensures) c.in_err-in_brackets.ensures))
 
 pub returns-then-sees_id : goal.returns-then-sees_id
 returns-then-sees_id c =
     let seen = sym c.sees_id.ensures ∙ c.if-sees_id.true in
     let word = taken_before c.args.room seen c.skip.ensures in
-    record { parse = left (pair word.parse (group c.in_ok-bracketed.ensures.parse)); reads = first seen (both word.reads c.in_ok-bracketed.ensures.reads); means = refl }
+    record { parse = left (pair word.parse (group c.in_ok-in_brackets.ensures.parse)); reads = first seen (both word.reads c.in_ok-in_brackets.ensures.reads); means = refl }
 
 pub returns-in_err-name : goal.returns-in_err-name
 returns-in_err-name c = exits _ _ _ _ c.from_residual-in_err-name.ensures.1 (fails_last (sym c.sees_id.ensures ∙ c.if-sees_id.false) (c.in_err-name.ensures _))

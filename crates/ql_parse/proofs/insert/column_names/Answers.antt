@@ -10,5 +10,5 @@ returns-then-not-sees_mark c = record { parse = absent; reads = left_out (sym c.
 
 pub returns : goal.returns
 returns c =
-    part_answers names_of names_of c.bracketed.result (sym c.sees_mark.ensures ∙ c.if-not-sees_mark.false)
-    (group_answers c.args.room (list name) c.args.cursor.now c.bracketed.new.cursor names_of names_of c.bracketed.result c.bracketed.ensures (λ a. refl)) (λ a h. refl)
+    part_answers names_of names_of c.in_brackets.result (sym c.sees_mark.ensures ∙ c.if-not-sees_mark.false)
+    (group_answers c.args.room (list name) c.args.cursor.now c.in_brackets.new.cursor names_of names_of c.in_brackets.result c.in_brackets.ensures (λ a. refl)) (λ a h. refl)

@@ -38,22 +38,22 @@ count c = c.len-count.ensures ∙ counted c.args.source.now c.args.tokens
 
 pub returns-clause-unexpected : goal.returns-clause-unexpected
 returns-clause-unexpected c i e =
-    let same : c.placed.result ≡ p.Unexpected i = cc in
-    is_unexpected c.len-count.result i c.in-Err.fault (count c) (failed c) (sym c.placed.ensures ∙ same)
+    let same : c.parse_fault.result ≡ p.Unexpected i = cc in
+    is_unexpected c.len-count.result i c.in-Err.fault (count c) (failed c) (sym c.parse_fault.ensures ∙ same)
 
 pub returns-clause-too_nested : goal.returns-clause-too_nested
 returns-clause-too_nested c i e =
-    let same : c.placed.result ≡ p.TooNested i = cc in
-    is_nested c.len-count.result i c.in-Err.fault (count c) (failed c) (sym c.placed.ensures ∙ same)
+    let same : c.parse_fault.result ≡ p.TooNested i = cc in
+    is_nested c.len-count.result i c.in-Err.fault (count c) (failed c) (sym c.parse_fault.ensures ∙ same)
 
 pub returns-clause-just_read : goal.returns-clause-just_read
-returns-clause-just_read c rs k = rw c.placed.ensures (err_just_read c.len-count.result c.in-Err.fault (failed c) rs k)
+returns-clause-just_read c rs k = rw c.parse_fault.ensures (err_just_read c.len-count.result c.in-Err.fault (failed c) rs k)
 
 pub returns-clause-just_unexpected : goal.returns-clause-just_unexpected
-returns-clause-just_unexpected c i k = rw c.placed.ensures (err_just_unexpected c.len-count.result c.in-Err.fault (count c) (failed c) i k)
+returns-clause-just_unexpected c i k = rw c.parse_fault.ensures (err_just_unexpected c.len-count.result c.in-Err.fault (count c) (failed c) i k)
 
 pub returns-clause-just_nested : goal.returns-clause-just_nested
-returns-clause-just_nested c i k = rw c.placed.ensures (err_just_nested c.len-count.result c.in-Err.fault (count c) (failed c) i k)
+returns-clause-just_nested c i k = rw c.parse_fault.ensures (err_just_nested c.len-count.result c.in-Err.fault (count c) (failed c) i k)
 
 pub returns-clause-laws : goal.returns-clause-laws
 returns-clause-laws c = script_laws

@@ -1,10 +1,10 @@
 use Rattle.std.proofs.Common.{refl}
 use Rattle.ql_syntax.specs.Rules as rule
 use Rattle.ql_syntax.specs.Readings.{node}
-use Rattle.ql_parse.specs.StatementParts.{made_of}
+use Rattle.ql_parse.specs.StatementParts.{table_or_index_of}
 use Rattle.ql_syntax.specs.Statements.{creation_of}
 use Rattle.ql_parse.proofs.Answering.{second_answers, the_answers}
-use Rattle.ql_parse.proofs.StatementLemmas.{made_tree}
+use Rattle.ql_parse.proofs.StatementLemmas.{table_or_index_tree}
 use Rattle.ql_parse.proofs.StepLemmas.{exits}
 use Rattle.ql_parse.proofs.Sequences.{fails_the, fails_first}
 use Rattle.ql_parse.proofs.parser.Parser.creation.Goals as goal
@@ -14,6 +14,6 @@ returns-in_err-expect_word g c = exits _ _ _ _ c.from_residual.ensures.1 (fails_
 
 pub returns : goal.returns
 returns g c =
-    the_answers rule.creation (λ a. creation_of (node rule.creation a)) creation_of c.made.result
-    (second_answers made_of (λ a. creation_of (node rule.creation a)) c.made.result (c.in_ok-expect_word.ensures c.args.self.now.room) c.made.ensures (made_tree (c.in_ok-expect_word.ensures c.args.self.now.room).parse))
+    the_answers rule.creation (λ a. creation_of (node rule.creation a)) creation_of c.table_or_index.result
+    (second_answers table_or_index_of (λ a. creation_of (node rule.creation a)) c.table_or_index.result (c.in_ok-expect_word.ensures c.args.self.now.room) c.table_or_index.ensures (table_or_index_tree (c.in_ok-expect_word.ensures c.args.self.now.room).parse))
     (λ a h. refl)

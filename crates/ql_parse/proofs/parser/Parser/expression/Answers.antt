@@ -1,21 +1,11 @@
-use Rattle.std.proofs.Common.{◌∙◌}
+use Rattle.std.proofs.Common.{refl}
+use Rattle.ql_parse.specs.Levels.{chain_of}
 use Rattle.ql_syntax.specs.Rules as rule
-use Rattle.ql_syntax.specs.Readings.{pair, node, both, by_rule}
-use Rattle.ql_parse.proofs.StepLemmas.{exits}
-use Rattle.ql_parse.proofs.Sequences.{fails_the, fails_first, fails_second}
-use Rattle.ql_parse.proofs.ChainLemmas.{same_chain}
+use Rattle.ql_syntax.specs.Readings.{node}
+use Rattle.ql_syntax.specs.Trees.{expr_of}
+use Rattle.ql_parse.proofs.Answering.{the_answers}
+use Rattle.ql_parse.proofs.ChainLemmas.{chain_tree}
 use Rattle.ql_parse.proofs.parser.Parser.expression.Goals as goal
 
-pub returns-in_err-first : goal.returns-in_err-first
-returns-in_err-first g c = exits _ _ _ _ c.from_residual.ensures.1 (fails_the rule.expr (fails_first c.in_err-first.ensures))
-
-pub returns-in_err-rest : goal.returns-in_err-rest
-returns-in_err-rest g c = exits _ _ _ _ c.from_residual-in_err-rest.ensures.1 (fails_the rule.expr (fails_second c.in_ok-first.ensures c.in_err-rest.ensures))
-
 pub returns : goal.returns
-returns g c =
-    record {
-      parse = node rule.expr (pair c.in_ok-first.ensures.parse c.in_ok-rest.ensures.parse);
-      reads = by_rule (both c.in_ok-first.ensures.reads c.in_ok-rest.ensures.reads);
-      means = c.in_ok-chained.ensures ∙ same_chain c.in_ok-first.ensures.means c.in_ok-rest.ensures.means;
-    }
+returns g c = the_answers rule.expr chain_of expr_of c.chain.result c.chain.ensures (chain_tree (λ a. expr_of (node rule.expr a)) (λ a b. refl))

@@ -6,4 +6,4 @@ use Rattle.ql_parse.proofs.Answering.{group_answers}
 use Rattle.ql_parse.proofs.parser.Parser.row.Goals as goal
 
 pub returns : goal.returns
-returns g c = group_answers c.args.self.now.room (list (the expr)) c.args.cursor.now c.bracketed.new.cursor exprs_of row_of c.bracketed.result c.bracketed.ensures (λ a. refl)
+returns g c = group_answers c.args.self.now.room (list (the expr)) c.args.cursor.now c.in_brackets.new.cursor exprs_of row_of c.in_brackets.result c.in_brackets.ensures (λ a. refl)

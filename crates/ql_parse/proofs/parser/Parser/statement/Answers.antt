@@ -8,5 +8,5 @@ returns-in_default g c = fails_none (none_at_end _ (sym c.kind.ensures ∙ c.in_
 pub returns-in_default-kind : goal.returns-in_default-kind
 returns-in_default-kind g c = fails_none (none_at_other _ _ (sym c.kind.ensures ∙ c.in-Some.is) c.in_default-kind.not-Word) c.unexpected-in_default-kind.ensures
 
-pub worded-requires-clause-next : goal.worded-requires-clause-next
-worded-requires-clause-next g c = cc (c.kind.ensures, c.in-Some.is, c.in-Word.is)
+pub statement_by_word-requires-clause-next : goal.statement_by_word-requires-clause-next
+statement_by_word-requires-clause-next g c = cc (c.kind.ensures, c.in-Some.is, c.in-Word.is)

@@ -18,5 +18,5 @@ returns g c =
     record {
       parse = node rule.unary (pair ops.parse c.in_ok-part.ensures.parse);
       reads = by_rule (both ops.reads c.in_ok-part.ensures.reads);
-      means = c.in_ok-prefixed.ensures ∙ same_signed ops.means c.in_ok-part.ensures.means;
+      means = c.in_ok-make_unary.ensures ∙ same_signed ops.means c.in_ok-part.ensures.means;
     }

@@ -2,7 +2,7 @@ use Rattle.std.proofs.Common.{sym, ◌∙◌}
 use Rattle.ql_parse.proofs.StepLemmas.{exits}
 use Rattle.ql_parse.proofs.PrimaryLemmas.{at_true, at_false, at_null}
 use Rattle.ql_parse.proofs.CallLemmas.{word_no_literal, fails_word, fails_convert, gives_convert}
-use Rattle.ql_parse.proofs.parser.Parser.keyed.Goals as goal
+use Rattle.ql_parse.proofs.parser.Parser.literal_or_conversion.Goals as goal
 
 pub returns-then-sees_word : goal.returns-then-sees_word
 returns-then-sees_word g c = at_true _ _ _ (sym c.sees_word.ensures ∙ c.if-sees_word.true) c.skip.ensures

@@ -4,7 +4,7 @@ use Rattle.ql_lex.specs.declared.words.Word.TheVariants as w
 use Rattle.ql_syntax.specs.declared.statement.Statement.TheVariants as s
 use Rattle.ql_parse.proofs.StepLemmas.{exits}
 use Rattle.ql_parse.proofs.DispatchLemmas.{other_word, fails_none, at_begin, at_commit, at_rollback, at_query, at_creation, at_removal, at_alteration, at_truncation, at_insertion, at_update, at_deletion}
-use Rattle.ql_parse.proofs.parser.Parser.worded.Goals as goal
+use Rattle.ql_parse.proofs.parser.Parser.statement_by_word.Goals as goal
 
 pub returns-in-Begin : goal.returns-in-Begin
 returns-in-Begin g c = at_begin c.args.self.now.room c.args.cursor.now c.begin.new.cursor c.begin.result (c.requires.next ∙ ap (λ a. Some (kind.Word a)) c.in-Begin.is) (c.begin.ensures c.args.self.now.room)

@@ -1,7 +1,7 @@
 use Rattle.std.proofs.Common.{sym, ◌∙◌}
 use Rattle.ql_parse.proofs.StepLemmas.{fails_with}
 use Rattle.ql_parse.proofs.ScriptLemmas.{later_going, one_later, no_later, later_fails, fewer_later}
-use Rattle.ql_parse.proofs.parser.Parser.later.Goals as goal
+use Rattle.ql_parse.proofs.parser.Parser.add_later.Goals as goal
 
 pub later-init : goal.later-init
 later-init g c = later_going _ _ _

@@ -1,4 +1,4 @@
-use Rattle.ql_parse.proofs.knot.+parse.Given as goal
+use Rattle.ql_parse.proofs.nested.+parse.Given as goal
 
 abbrev pub decreases-expr : goal.decreases-expr
 decreases-expr l = l.room

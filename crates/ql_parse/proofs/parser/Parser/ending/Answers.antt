@@ -2,7 +2,7 @@ use Rattle.ql_syntax.specs.Readings.{pair, both}
 use Rattle.ql_parse.proofs.StepLemmas.{exits}
 use Rattle.ql_parse.proofs.Sequences.{fails_first, fails_second}
 use Rattle.ql_parse.proofs.SelectLemmas.{same_pair}
-use Rattle.ql_parse.proofs.parser.Parser.sorted.Goals as goal
+use Rattle.ql_parse.proofs.parser.Parser.ending.Goals as goal
 
 pub returns-in_err-order : goal.returns-in_err-order
 returns-in_err-order g c = exits _ _ _ _ c.from_residual.ensures.1 (fails_first c.in_err-order.ensures)

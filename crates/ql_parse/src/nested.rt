@@ -1,3 +1,5 @@
+//! The two functions that recursion through brackets goes by.
+
 ghost use Rattle.ql_parse.specs.Parses.{Answers};
 ghost use Rattle.ql_syntax.specs.Rules as rule;
 ghost use Rattle.ql_syntax.specs.Trees.{expr_of, select_of};

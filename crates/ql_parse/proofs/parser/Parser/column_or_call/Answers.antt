@@ -2,7 +2,7 @@ use Rattle.std.proofs.Common.{true, false, sym, ◌∙◌}
 use Rattle.ql_syntax.specs.Lexemes.{is_count, is_function, is_open}
 use Rattle.ql_parse.proofs.StepLemmas.{exits}
 use Rattle.ql_parse.proofs.CallLemmas.{two_behind, two_before, by_text, count_by_text, function_by_text, gives_column, fails_column, gives_count, fails_count, gives_call, fails_call, function_is_count, not_count}
-use Rattle.ql_parse.proofs.parser.Parser.named.Goals as goal
+use Rattle.ql_parse.proofs.parser.Parser.column_or_call.Goals as goal
 
 pub returns-in_err-column : goal.returns-in_err-column
 returns-in_err-column g c =

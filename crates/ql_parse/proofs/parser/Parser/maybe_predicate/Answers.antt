@@ -4,7 +4,7 @@ use Rattle.ql_syntax.specs.Readings.{present, absent, node, left, right, entered
 use Rattle.ql_parse.proofs.StepLemmas.{exits}
 use Rattle.ql_parse.proofs.Sequences.{fails_the, fails_left, fails_right, fails_part}
 use Rattle.ql_parse.proofs.PredicateLemmas.{null_tree, membership_tree}
-use Rattle.ql_parse.proofs.parser.Parser.tested.Goals as goal
+use Rattle.ql_parse.proofs.parser.Parser.maybe_predicate.Goals as goal
 
 pub returns-in_err-membership : goal.returns-in_err-membership
 returns-in_err-membership g c =

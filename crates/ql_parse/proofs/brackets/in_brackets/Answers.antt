@@ -1,7 +1,7 @@
 use Rattle.std.proofs.Common.{◌≡◌, ◌-◌, suc, arith}
 use Rattle.ql_parse.proofs.StepLemmas.{exits_enclosed}
 use Rattle.ql_parse.proofs.BracketLemmas.{fails_inside, fails_close, gives_enclosed}
-use Rattle.ql_parse.proofs.brackets.bracketed.Goals as goal
+use Rattle.ql_parse.proofs.brackets.in_brackets.Goals as goal
 
 pub returns-in_err-value : goal.returns-in_err-value
 returns-in_err-value g c =
