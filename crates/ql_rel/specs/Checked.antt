@@ -1,5 +1,5 @@
 -- What is known of an expression whose names are resolved.
-use Rattle.std.specs.Prelude.{ℕ, ℤ, pos, neg_ℤ, Bool, false, ◌&&◌, if◌then◌else◌, Option, Some, None, Ok}
+use Rattle.std.specs.Prelude.{ℤ, pos, neg_ℤ, Bool, false, ◌&&◌, if◌then◌else◌, Option, Some, None, Ok}
 use Rattle.ql_value.specs.Number.{has_number, wrapped}
 use Rattle.ql_value.specs.declared.value.Kind.{Kind}
 use Rattle.ql_value.specs.declared.value.Kind.TheVariants as k

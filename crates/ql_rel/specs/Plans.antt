@@ -19,7 +19,6 @@ use Rattle.ql_syntax.specs.declared.syntax.SetSource.{SetSource, out-SetSource}
 use Rattle.ql_syntax.specs.declared.typed.Typed.{Typed}
 use Rattle.ql_syntax.specs.declared.typed.Typed.TheVariants as t
 use Rattle.ql_value.specs.Kinds.{is_integer, is_truth}
-use Rattle.ql_syntax.specs.declared.typing.Typing.{Typing}
 use Rattle.ql_syntax.specs.declared.typing.Typing.TheVariants.{OfKind}
 use Rattle.ql_syntax.specs.Typing.{among}
 use Rattle.ql_rel.specs.declared.scope.Slot.{Slot}

@@ -3,8 +3,8 @@ use ql_check::{CheckFault, check};
 use ql_edge::{Bytes, NoMemory};
 use ql_lex::{LexFault, tokens};
 use ql_parse::{ParseFault, script};
-use ql_syntax::{Statement, Statements};
 use ql_rel::{Indexes, Schema, TableSchema, TableSchemas};
+use ql_syntax::{Statement, Statements};
 use ql_value::{Refusal, print_number};
 use std::alloc::Global;
 
@@ -88,7 +88,7 @@ pub fn add_answer(alloc: Global, source: &[u8], out: &mut Bytes) -> Result<(), N
         Err(LexFault::NoMemory) => return Err(NoMemory),
         Err(_) => return out.extend(b"no script"),
     };
-    match script(alloc, source, &tokens) {
+    match script(alloc, source, tokens) {
         Ok(statements) => add_statements(alloc, statements, out),
         Err(ParseFault::NoMemory) => Err(NoMemory),
         Err(_) => out.extend(b"no script"),

@@ -1,6 +1,6 @@
 use ql_edge::{Bytes, NoMemory};
-use ql_syntax::{Typed, Typeds};
 use ql_rel::Plan;
+use ql_syntax::{Typed, Typeds};
 use ql_value::print_number;
 
 /// Adds the place of the row at which an expression is the value.
