@@ -1,4 +1,5 @@
 pub mod Examples
+pub mod Existence
 pub mod NoTables
 pub mod Giving
 pub mod Lines

@@ -40,8 +40,12 @@ stopped_by number (step.Device fault) = status_of fault
 
 -- `Fault` comes only where the count rose, and every other status leaves the count
 abbrev pub IsCausedStatus : Status → ℕ → ℕ → Type 0
+IsCausedStatus status.Done before now = now ≡ before
+IsCausedStatus (status.Script _) before now = now ≡ before
+IsCausedStatus (status.Refused _ _) before now = now ≡ before
+IsCausedStatus (status.Usage _) before now = now ≡ before
 IsCausedStatus status.Fault before now = Rose before now
-IsCausedStatus _ before now = now ≡ before
+IsCausedStatus status.NoMemory before now = now ≡ before
 
 -- the same of a call that answers a status in place of a value
 abbrev pub IsCausedReading : {T : Type 0} → Result T Status → ℕ → ℕ → Type 0
@@ -50,5 +54,7 @@ IsCausedReading (Err s) before now = IsCausedStatus s before now
 
 -- the same of a statement
 abbrev pub IsCausedStep : {T : Type 0} → Result T StepFault → ℕ → ℕ → Type 0
+IsCausedStep (Ok _) before now = now ≡ before
+IsCausedStep (Err (step.Refused _)) before now = now ≡ before
 IsCausedStep (Err (step.Device device.Failed)) before now = Rose before now
-IsCausedStep _ before now = now ≡ before
+IsCausedStep (Err (step.Device device.NoMemory)) before now = now ≡ before

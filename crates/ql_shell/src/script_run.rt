@@ -1,5 +1,5 @@
 //! A run: what the words ask for, carried out and warned of.
-ghost use Rattle.std.specs.Prelude.{◌≡◌, ◌⊎◌, ℕ, ◌+◌, ◌<◌, ◌≤◌, List, [], length, map, Result, Err, IfOk, IfErr, OnOk};
+ghost use Rattle.std.specs.Prelude.{◌≡◌, ◌⊎◌, ℕ, ◌+◌, ◌<◌, ◌≤◌, List, [], length, map, Option, Result, Err, IfOk, IfErr, OnOk};
 ghost use Rattle.std.specs.String.{string_bytes};
 ghost use Rattle.ql_edge.specs.Cause.{Rose};
 ghost use Rattle.ql_edge.specs.Frame.{Keeps};
@@ -167,6 +167,10 @@ pub fn run<M: Machine>(alloc: Global, words: &Vec<String>, machine: M) -> (M, St
     // What is shown is a front of the text that the words and the script mean.
     ensures shown { (answer : Answer) → Means (command_of (map string_bytes words.now.items)) (M.left machine) answer
         → IsFrontShown answer.text (shown_of (M.told machine)) (shown_of (M.told result.0)) }
+
+    // Words and a script that is told always mean something.
+    ensures meant { (command : Command) (input : Option (List ℕ)) → TellsScript command input
+        → (answer : Answer) × Means command input answer }
 
     // Without a fault and want of memory, all of the text is shown, and the status is the script's own.
     ensures whole { TellsScript (command_of (map string_bytes words.now.items)) (M.left machine) → IsFinal result.1

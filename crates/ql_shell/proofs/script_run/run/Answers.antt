@@ -2,6 +2,7 @@ use Rattle.std.proofs.Common.{take, inl, inr, ap, ◌∙◌}
 use Rattle.ql_edge.specs.Told.{shown_of}
 use Rattle.ql_shell.specs.Run.{IsFinal}
 use Rattle.ql_shell.specs.declared.status.Status.TheVariants.{NoMemory}
+use Rattle.ql_shell.proofs.Existence.{meant}
 use Rattle.ql_shell.proofs.Giving.{gives_front, gives_whole, final_or_not, shown_with_shown, shows_added}
 use Rattle.ql_shell.proofs.Taking.{takes_memory}
 use Rattle.ql_shell.proofs.script_run.run.Goals as goal
@@ -46,3 +47,6 @@ returns-clause-grows g c = let added = shows_added _ _ c.answer-status.ensures.s
 
 pub returns-clause-most : goal.returns-clause-most
 returns-clause-most g c = rw c.warn-status.ensures.frame.0 c.answer-status.ensures.most
+
+pub returns-clause-meant : goal.returns-clause-meant
+returns-clause-meant g c = meant
