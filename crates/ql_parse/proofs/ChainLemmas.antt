@@ -11,10 +11,10 @@ use Rattle.ql_syntax.specs.declared.syntax.Link.{Link, roll-Link}
 use Rattle.ql_syntax.specs.Lexemes.{Lexeme, sees, is_prefix}
 use Rattle.ql_value.specs.declared.operator.UnOp.{UnOp}
 use Rattle.ql_value.specs.declared.operator.UnOp.TheVariants as un
-use Rattle.ql_parse.specs.Levels.{is_op, part_of, links, chain_rule, chain_of, next_op, next_un_op}
+use Rattle.ql_parse.specs.Levels.{is_op, part_of, chain_rule, chain_of, next_op, next_un_op}
 use Rattle.ql_syntax.specs.Rules.{Rule, token, ◌then◌, the, maybe, factor, predicate}
 use Rattle.ql_syntax.specs.Readings.{Parse, Reads, Stop, Stops, leaf, pair, cell, node, takes, both, by_rule, in_first, in_second}
-use Rattle.ql_parse.specs.Parses.{Gives, Fails, fault_of}
+use Rattle.ql_parse.specs.Parses.{Gives, Fails}
 use Rattle.ql_syntax.specs.Trees.{bin_op, un_op, chain, signed, expr_of, links_of, ops_of, tested_of}
 
 -- a link

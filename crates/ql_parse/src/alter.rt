@@ -58,8 +58,11 @@ impl<
 > Parser<E, S> {
     /// The change of a table, from ADD or DROP on.
     fn change(&self, cursor: &mut Cursor<'_>, table: Name) -> Result<Statement, Fault>
-        requires { Nests self.now.room (E.pre self.now.expr) (E.post self.now.expr) (S.pre self.now.select) (S.post self.now.select) }
-        ensures { Answers self.now.room spec.change_rule (spec.change_of table) cursor.old result cursor.new }
+        requires { Nests self.now.room
+            (E.pre self.now.expr) (E.post self.now.expr)
+            (S.pre self.now.select) (S.post self.now.select) }
+        ensures { Answers self.now.room spec.change_rule (spec.change_of table)
+            cursor.old result cursor.new }
     {
         if sees_word(cursor, Word::Add) {
             cursor.skip();
@@ -78,8 +81,11 @@ impl<
 
     /// ALTER TABLE.
     pub fn alteration(&self, cursor: &mut Cursor<'_>) -> Result<Statement, Fault>
-        requires { Nests self.now.room (E.pre self.now.expr) (E.post self.now.expr) (S.pre self.now.select) (S.post self.now.select) }
-        ensures { Answers self.now.room (rule.the rule.alteration) alteration_of cursor.old result cursor.new }
+        requires { Nests self.now.room
+            (E.pre self.now.expr) (E.post self.now.expr)
+            (S.pre self.now.select) (S.post self.now.select) }
+        ensures { Answers self.now.room (rule.the rule.alteration) alteration_of
+            cursor.old result cursor.new }
     {
         expect_word(cursor, Word::Alter)?;
         expect_word(cursor, Word::Table)?;

@@ -44,7 +44,8 @@ fn make_unary(alloc: Global, ops: UnOps, part: Expr) -> Result<Expr, NoMemory>
 
 /// The operators before a part.
 fn prefixes(alloc: Global, cursor: &mut Cursor<'_>) -> Result<UnOps, Fault>
-    ensures { AnswersAnywhere (rule.many (rule.token is_prefix)) ops_of cursor.old result cursor.new }
+    ensures { AnswersAnywhere (rule.many (rule.token is_prefix)) ops_of
+        cursor.old result cursor.new }
 {
     let mut ops = UnOps::new(alloc);
     'ops: while let Some(op) = next_prefix(cursor) {
@@ -66,7 +67,8 @@ impl<
         cursor: &mut Cursor<'_>,
         part: P,
     ) -> Result<Links, Fault>
-        requires { ReadsPart self.now.room (rule.the (part_of level)) expr_of (P.pre part) (P.post part) }
+        requires { ReadsPart self.now.room (rule.the (part_of level)) expr_of
+            (P.pre part) (P.post part) }
         ensures { Answers self.now.room (links level) links_of cursor.old result cursor.new }
     {
         let mut links = Links::new(self.alloc);
@@ -86,7 +88,8 @@ impl<
         cursor: &mut Cursor<'_>,
         part: P,
     ) -> Result<Expr, Fault>
-        requires { ReadsPart self.now.room (rule.the (part_of level)) expr_of (P.pre part) (P.post part) }
+        requires { ReadsPart self.now.room (rule.the (part_of level)) expr_of
+            (P.pre part) (P.post part) }
         ensures { Answers self.now.room (chain_rule level) chain_of cursor.old result cursor.new }
     {
         let first = part(cursor)?;
@@ -96,7 +99,9 @@ impl<
 
     /// An expression.
     pub fn expression(&self, cursor: &mut Cursor<'_>) -> Result<Expr, Fault>
-        requires { Nests self.now.room (E.pre self.now.expr) (E.post self.now.expr) (S.pre self.now.select) (S.post self.now.select) }
+        requires { Nests self.now.room
+            (E.pre self.now.expr) (E.post self.now.expr)
+            (S.pre self.now.select) (S.post self.now.select) }
         ensures { Answers self.now.room (rule.the rule.expr) expr_of cursor.old result cursor.new }
     {
         self.chain(Level::Either, cursor, |cursor| self.term(cursor))
@@ -104,7 +109,9 @@ impl<
 
     /// An expression, on the heap.
     pub fn boxed_expression(&self, cursor: &mut Cursor<'_>) -> Result<Boxed<Expr>, Fault>
-        requires { Nests self.now.room (E.pre self.now.expr) (E.post self.now.expr) (S.pre self.now.select) (S.post self.now.select) }
+        requires { Nests self.now.room
+            (E.pre self.now.expr) (E.post self.now.expr)
+            (S.pre self.now.select) (S.post self.now.select) }
         ensures { Answers self.now.room (rule.the rule.expr) expr_of cursor.old result cursor.new }
     {
         let part = self.expression(cursor)?;
@@ -112,15 +119,20 @@ impl<
     }
 
     fn term(&self, cursor: &mut Cursor<'_>) -> Result<Expr, Fault>
-        requires { Nests self.now.room (E.pre self.now.expr) (E.post self.now.expr) (S.pre self.now.select) (S.post self.now.select) }
+        requires { Nests self.now.room
+            (E.pre self.now.expr) (E.post self.now.expr)
+            (S.pre self.now.select) (S.post self.now.select) }
         ensures { Answers self.now.room (rule.the rule.term) expr_of cursor.old result cursor.new }
     {
         self.chain(Level::Both, cursor, |cursor| self.factor(cursor))
     }
 
     fn factor(&self, cursor: &mut Cursor<'_>) -> Result<Expr, Fault>
-        requires { Nests self.now.room (E.pre self.now.expr) (E.post self.now.expr) (S.pre self.now.select) (S.post self.now.select) }
-        ensures { Answers self.now.room (rule.the rule.factor) expr_of cursor.old result cursor.new }
+        requires { Nests self.now.room
+            (E.pre self.now.expr) (E.post self.now.expr)
+            (S.pre self.now.select) (S.post self.now.select) }
+        ensures { Answers self.now.room (rule.the rule.factor) expr_of
+            cursor.old result cursor.new }
     {
         let part = self.chain(Level::Comparison, cursor, |cursor| self.sum(cursor))?;
         Ok(self.maybe_predicate(cursor, part)?)
@@ -128,7 +140,9 @@ impl<
 
     /// A sum, the part of comparisons.
     fn sum(&self, cursor: &mut Cursor<'_>) -> Result<Expr, Fault>
-        requires { Nests self.now.room (E.pre self.now.expr) (E.post self.now.expr) (S.pre self.now.select) (S.post self.now.select) }
+        requires { Nests self.now.room
+            (E.pre self.now.expr) (E.post self.now.expr)
+            (S.pre self.now.select) (S.post self.now.select) }
         ensures { Answers self.now.room (rule.the rule.sum) expr_of cursor.old result cursor.new }
     {
         self.chain(Level::Sum, cursor, |cursor| self.product(cursor))
@@ -136,7 +150,9 @@ impl<
 
     /// A sum, on the heap.
     pub fn boxed_sum(&self, cursor: &mut Cursor<'_>) -> Result<Boxed<Expr>, Fault>
-        requires { Nests self.now.room (E.pre self.now.expr) (E.post self.now.expr) (S.pre self.now.select) (S.post self.now.select) }
+        requires { Nests self.now.room
+            (E.pre self.now.expr) (E.post self.now.expr)
+            (S.pre self.now.select) (S.post self.now.select) }
         ensures { Answers self.now.room (rule.the rule.sum) expr_of cursor.old result cursor.new }
     {
         let part = self.sum(cursor)?;
@@ -144,14 +160,19 @@ impl<
     }
 
     fn product(&self, cursor: &mut Cursor<'_>) -> Result<Expr, Fault>
-        requires { Nests self.now.room (E.pre self.now.expr) (E.post self.now.expr) (S.pre self.now.select) (S.post self.now.select) }
-        ensures { Answers self.now.room (rule.the rule.product) expr_of cursor.old result cursor.new }
+        requires { Nests self.now.room
+            (E.pre self.now.expr) (E.post self.now.expr)
+            (S.pre self.now.select) (S.post self.now.select) }
+        ensures { Answers self.now.room (rule.the rule.product) expr_of
+            cursor.old result cursor.new }
     {
         self.chain(Level::Product, cursor, |cursor| self.unary(cursor))
     }
 
     fn unary(&self, cursor: &mut Cursor<'_>) -> Result<Expr, Fault>
-        requires { Nests self.now.room (E.pre self.now.expr) (E.post self.now.expr) (S.pre self.now.select) (S.post self.now.select) }
+        requires { Nests self.now.room
+            (E.pre self.now.expr) (E.post self.now.expr)
+            (S.pre self.now.select) (S.post self.now.select) }
         ensures { Answers self.now.room (rule.the rule.unary) expr_of cursor.old result cursor.new }
     {
         let ops = prefixes(self.alloc, cursor)?;

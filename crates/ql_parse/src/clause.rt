@@ -21,7 +21,9 @@ impl<
 > Parser<E, S> {
     /// A keyword and the expression behind it, or none of both.
     pub fn clause(&self, cursor: &mut Cursor<'_>, word: Word) -> Result<Option<Boxed<Expr>>, Fault>
-        requires { Nests self.now.room (E.pre self.now.expr) (E.post self.now.expr) (S.pre self.now.select) (S.post self.now.select) }
+        requires { Nests self.now.room
+            (E.pre self.now.expr) (E.post self.now.expr)
+            (S.pre self.now.select) (S.post self.now.select) }
         ensures { Answers self.now.room (rule.maybe (rule.word word then rule.the rule.expr)) option_of cursor.old result cursor.new }
     {
         if !sees_word(cursor, word) {

@@ -51,7 +51,9 @@ impl<
 > Parser<E, S> {
     /// NOT NULL or a rule in its place: whether it is NOT NULL, and the rule.
     fn constraint(&self, cursor: &mut Cursor<'_>) -> Result<(bool, Option<Boxed<Expr>>), Fault>
-        requires { Nests self.now.room (E.pre self.now.expr) (E.post self.now.expr) (S.pre self.now.select) (S.post self.now.select) }
+        requires { Nests self.now.room
+            (E.pre self.now.expr) (E.post self.now.expr)
+            (S.pre self.now.select) (S.post self.now.select) }
         ensures { Answers self.now.room constraint_rule constraint_of cursor.old result cursor.new }
     {
         if sees_word(cursor, Word::Not) {
@@ -68,8 +70,11 @@ impl<
 
     /// A column of a table.
     pub fn column_def(&self, cursor: &mut Cursor<'_>) -> Result<ColumnDef, Fault>
-        requires { Nests self.now.room (E.pre self.now.expr) (E.post self.now.expr) (S.pre self.now.select) (S.post self.now.select) }
-        ensures { Answers self.now.room (rule.the rule.column) column_of cursor.old result cursor.new }
+        requires { Nests self.now.room
+            (E.pre self.now.expr) (E.post self.now.expr)
+            (S.pre self.now.select) (S.post self.now.select) }
+        ensures { Answers self.now.room (rule.the rule.column) column_of
+            cursor.old result cursor.new }
     {
         let name = expect_name(self.alloc, cursor)?;
         let kind = expect_kind(cursor)?;
@@ -86,7 +91,9 @@ impl<
 
     /// A column inside a bracket, where the room is smaller.
     fn inner_column(&self, room: usize, cursor: &mut Cursor<'_>) -> Result<ColumnDef, Fault>
-        requires nests { Nests self.now.room (E.pre self.now.expr) (E.post self.now.expr) (S.pre self.now.select) (S.post self.now.select) }
+        requires nests { Nests self.now.room
+            (E.pre self.now.expr) (E.post self.now.expr)
+            (S.pre self.now.select) (S.post self.now.select) }
         requires within { room < self.now.room }
         ensures { Answers room (rule.the rule.column) column_of cursor.old result cursor.new }
     {
@@ -101,9 +108,12 @@ impl<
 
     /// The columns of a table, inside their brackets.
     pub fn column_defs(&self, room: usize, cursor: &mut Cursor<'_>) -> Result<ColumnDefs, Fault>
-        requires nests { Nests self.now.room (E.pre self.now.expr) (E.post self.now.expr) (S.pre self.now.select) (S.post self.now.select) }
+        requires nests { Nests self.now.room
+            (E.pre self.now.expr) (E.post self.now.expr)
+            (S.pre self.now.select) (S.post self.now.select) }
         requires within { room < self.now.room }
-        ensures { Answers room (rule.list (rule.the rule.column)) columns_of cursor.old result cursor.new }
+        ensures { Answers room (rule.list (rule.the rule.column)) columns_of
+            cursor.old result cursor.new }
     {
         list::<ColumnList, _>(self.alloc, room, cursor, |room, cursor| {
             self.inner_column(room, cursor)

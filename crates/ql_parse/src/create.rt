@@ -127,7 +127,9 @@ impl<
 > Parser<E, S> {
     /// CREATE TABLE, from TABLE on.
     fn create_table(&self, cursor: &mut Cursor<'_>) -> Result<Statement, Fault>
-        requires { Nests self.now.room (E.pre self.now.expr) (E.post self.now.expr) (S.pre self.now.select) (S.post self.now.select) }
+        requires { Nests self.now.room
+            (E.pre self.now.expr) (E.post self.now.expr)
+            (S.pre self.now.select) (S.post self.now.select) }
         ensures { Answers self.now.room spec.table_rule spec.table_of cursor.old result cursor.new }
     {
         expect_word(cursor, Word::Table)?;
@@ -145,8 +147,11 @@ impl<
 
     /// What stands behind CREATE.
     fn table_or_index(&self, cursor: &mut Cursor<'_>) -> Result<Statement, Fault>
-        requires { Nests self.now.room (E.pre self.now.expr) (E.post self.now.expr) (S.pre self.now.select) (S.post self.now.select) }
-        ensures { Answers self.now.room spec.table_or_index_rule spec.table_or_index_of cursor.old result cursor.new }
+        requires { Nests self.now.room
+            (E.pre self.now.expr) (E.post self.now.expr)
+            (S.pre self.now.select) (S.post self.now.select) }
+        ensures { Answers self.now.room spec.table_or_index_rule spec.table_or_index_of
+            cursor.old result cursor.new }
     {
         if sees_word(cursor, Word::Table) {
             return self.create_table(cursor);
@@ -159,8 +164,11 @@ impl<
 
     /// CREATE TABLE or CREATE INDEX.
     pub fn creation(&self, cursor: &mut Cursor<'_>) -> Result<Statement, Fault>
-        requires { Nests self.now.room (E.pre self.now.expr) (E.post self.now.expr) (S.pre self.now.select) (S.post self.now.select) }
-        ensures { Answers self.now.room (rule.the rule.creation) creation_of cursor.old result cursor.new }
+        requires { Nests self.now.room
+            (E.pre self.now.expr) (E.post self.now.expr)
+            (S.pre self.now.select) (S.post self.now.select) }
+        ensures { Answers self.now.room (rule.the rule.creation) creation_of
+            cursor.old result cursor.new }
     {
         expect_word(cursor, Word::Create)?;
         self.table_or_index(cursor)

@@ -23,7 +23,8 @@ pub fn if_exists(cursor: &mut Cursor<'_>) -> Result<bool, Fault>
 
 /// IF NOT EXISTS, or none of it: whether it stands there.
 pub fn unless_exists(cursor: &mut Cursor<'_>) -> Result<bool, Fault>
-    ensures { AnswersAnywhere (rule.maybe rule.if_not_exists) is_present cursor.old result cursor.new }
+    ensures { AnswersAnywhere (rule.maybe rule.if_not_exists) is_present
+        cursor.old result cursor.new }
 {
     if !sees_word(cursor, Word::If) {
         return Ok(false);

@@ -63,7 +63,9 @@ impl<
     S: Fn(Global, usize, &mut Cursor<'_>) -> Result<Select, Fault>,
 > Parser<E, S> {
     fn field(&self, cursor: &mut Cursor<'_>) -> Result<Field, Fault>
-        requires { Nests self.now.room (E.pre self.now.expr) (E.post self.now.expr) (S.pre self.now.select) (S.post self.now.select) }
+        requires { Nests self.now.room
+            (E.pre self.now.expr) (E.post self.now.expr)
+            (S.pre self.now.select) (S.post self.now.select) }
         ensures { Answers self.now.room spec.field_rule field_of cursor.old result cursor.new }
     {
         let expr = self.expression(cursor)?;
@@ -73,7 +75,9 @@ impl<
 
     /// The fields of a SELECT, none of them for `*`.
     pub fn fields(&self, cursor: &mut Cursor<'_>) -> Result<Fields, Fault>
-        requires { Nests self.now.room (E.pre self.now.expr) (E.post self.now.expr) (S.pre self.now.select) (S.post self.now.select) }
+        requires { Nests self.now.room
+            (E.pre self.now.expr) (E.post self.now.expr)
+            (S.pre self.now.select) (S.post self.now.select) }
         ensures { Answers self.now.room spec.fields_rule fields_of cursor.old result cursor.new }
     {
         if sees_mark(cursor, Mark::Star) {
@@ -90,7 +94,9 @@ impl<
 
     /// What a record set is made of.
     fn source(&self, cursor: &mut Cursor<'_>) -> Result<SetSource, Fault>
-        requires { Nests self.now.room (E.pre self.now.expr) (E.post self.now.expr) (S.pre self.now.select) (S.post self.now.select) }
+        requires { Nests self.now.room
+            (E.pre self.now.expr) (E.post self.now.expr)
+            (S.pre self.now.select) (S.post self.now.select) }
         ensures { Answers self.now.room spec.source_rule source_of cursor.old result cursor.new }
     {
         if sees_name(cursor) {
@@ -106,7 +112,9 @@ impl<
     }
 
     fn set(&self, cursor: &mut Cursor<'_>) -> Result<FromSet, Fault>
-        requires { Nests self.now.room (E.pre self.now.expr) (E.post self.now.expr) (S.pre self.now.select) (S.post self.now.select) }
+        requires { Nests self.now.room
+            (E.pre self.now.expr) (E.post self.now.expr)
+            (S.pre self.now.select) (S.post self.now.select) }
         ensures { Answers self.now.room (rule.the rule.set) set_of cursor.old result cursor.new }
     {
         let source = self.source(cursor)?;
@@ -115,7 +123,9 @@ impl<
     }
 
     fn join(&self, cursor: &mut Cursor<'_>) -> Result<Boxed<Join>, Fault>
-        requires { Nests self.now.room (E.pre self.now.expr) (E.post self.now.expr) (S.pre self.now.select) (S.post self.now.select) }
+        requires { Nests self.now.room
+            (E.pre self.now.expr) (E.post self.now.expr)
+            (S.pre self.now.select) (S.post self.now.select) }
         ensures { Answers self.now.room rule.join spec.one_join_of cursor.old result cursor.new }
     {
         let side = side(cursor)?;
@@ -129,8 +139,11 @@ impl<
 
     /// A join, or nothing.
     fn maybe_join(&self, cursor: &mut Cursor<'_>) -> Result<Option<Boxed<Join>>, Fault>
-        requires { Nests self.now.room (E.pre self.now.expr) (E.post self.now.expr) (S.pre self.now.select) (S.post self.now.select) }
-        ensures { Answers self.now.room (rule.maybe rule.join) spec.maybe_join_of cursor.old result cursor.new }
+        requires { Nests self.now.room
+            (E.pre self.now.expr) (E.post self.now.expr)
+            (S.pre self.now.select) (S.post self.now.select) }
+        ensures { Answers self.now.room (rule.maybe rule.join) spec.maybe_join_of
+            cursor.old result cursor.new }
     {
         if !begins_join(cursor) {
             return Ok(None);
@@ -140,7 +153,9 @@ impl<
 
     /// FROM, its record sets and the join behind them, or nothing.
     pub fn from(&self, cursor: &mut Cursor<'_>) -> Result<Sources, Fault>
-        requires { Nests self.now.room (E.pre self.now.expr) (E.post self.now.expr) (S.pre self.now.select) (S.post self.now.select) }
+        requires { Nests self.now.room
+            (E.pre self.now.expr) (E.post self.now.expr)
+            (S.pre self.now.select) (S.post self.now.select) }
         ensures { Answers self.now.room spec.from_rule spec.from_of cursor.old result cursor.new }
     {
         if !sees_word(cursor, Word::From) {

@@ -17,10 +17,12 @@ pub fn is_spelled(text: &[u8], name: &[u8]) -> bool
 
 /// The function with a name.
 pub fn function_of(text: &[u8]) -> Option<Function>
-    ensures none { IfNone result ((is_count (named text.now) ≡ false) × (is_function (named text.now) ≡ false)) }
+    ensures none { IfNone result ((is_count (named text.now) ≡ false)
+        × (is_function (named text.now) ≡ false)) }
     ensures some { IfSome result (λ f. f ≡ function_named text.now) }
     ensures count { IfSome result (λ f. is_count (named text.now) ≡ is_count_function f) }
-    ensures other { IfSome result (λ f. is_count (named text.now) || is_function (named text.now) ≡ true) }
+    ensures other { IfSome result (λ f. is_count (named text.now)
+        || is_function (named text.now) ≡ true) }
 {
     if is_spelled(text, b"id") {
         Some(Function::Id)

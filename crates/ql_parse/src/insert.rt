@@ -71,7 +71,8 @@ fn names(alloc: Global, room: usize, cursor: &mut Cursor<'_>) -> Result<Names, F
 
 /// The names of columns in brackets, or none.
 fn column_names(alloc: Global, room: usize, cursor: &mut Cursor<'_>) -> Result<Names, Fault>
-    ensures { Answers room (rule.maybe (rule.bracketed (rule.list rule.name))) names_of cursor.old result cursor.new }
+    ensures { Answers room (rule.maybe (rule.bracketed (rule.list rule.name))) names_of
+        cursor.old result cursor.new }
 {
     if !sees_mark(cursor, Mark::Open) {
         return Ok(Names::new(alloc));
@@ -85,7 +86,9 @@ impl<
 > Parser<E, S> {
     /// A row of an INSERT.
     fn row(&self, cursor: &mut Cursor<'_>) -> Result<Exprs, Fault>
-        requires { Nests self.now.room (E.pre self.now.expr) (E.post self.now.expr) (S.pre self.now.select) (S.post self.now.select) }
+        requires { Nests self.now.room
+            (E.pre self.now.expr) (E.post self.now.expr)
+            (S.pre self.now.select) (S.post self.now.select) }
         ensures { Answers self.now.room spec.row_rule row_of cursor.old result cursor.new }
     {
         in_brackets::<Row, _>(self.room, cursor, |room, cursor| self.exprs(room, cursor))
@@ -93,7 +96,9 @@ impl<
 
     /// Where an INSERT takes its rows from.
     fn rows(&self, cursor: &mut Cursor<'_>) -> Result<RowSource, Fault>
-        requires { Nests self.now.room (E.pre self.now.expr) (E.post self.now.expr) (S.pre self.now.select) (S.post self.now.select) }
+        requires { Nests self.now.room
+            (E.pre self.now.expr) (E.post self.now.expr)
+            (S.pre self.now.select) (S.post self.now.select) }
         ensures { Answers self.now.room spec.source_rule source_of cursor.old result cursor.new }
     {
         if sees_word(cursor, Word::Values) {
@@ -111,8 +116,11 @@ impl<
 
     /// INSERT.
     pub fn insertion(&self, cursor: &mut Cursor<'_>) -> Result<Statement, Fault>
-        requires { Nests self.now.room (E.pre self.now.expr) (E.post self.now.expr) (S.pre self.now.select) (S.post self.now.select) }
-        ensures { Answers self.now.room (rule.the rule.insertion) insertion_of cursor.old result cursor.new }
+        requires { Nests self.now.room
+            (E.pre self.now.expr) (E.post self.now.expr)
+            (S.pre self.now.select) (S.post self.now.select) }
+        ensures { Answers self.now.room (rule.the rule.insertion) insertion_of
+            cursor.old result cursor.new }
     {
         expect_word(cursor, Word::Insert)?;
         expect_word(cursor, Word::Into)?;

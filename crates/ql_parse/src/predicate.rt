@@ -39,7 +39,9 @@ impl<
 > Parser<E, S> {
     /// A SELECT inside a bracket, where the room is smaller.
     fn inner_select(&self, room: usize, cursor: &mut Cursor<'_>) -> Result<Select, Fault>
-        requires nests { Nests self.now.room (E.pre self.now.expr) (E.post self.now.expr) (S.pre self.now.select) (S.post self.now.select) }
+        requires nests { Nests self.now.room
+            (E.pre self.now.expr) (E.post self.now.expr)
+            (S.pre self.now.select) (S.post self.now.select) }
         requires within { room < self.now.room }
         ensures { Answers room (rule.the rule.select) select_of cursor.old result cursor.new }
     {
@@ -48,7 +50,9 @@ impl<
 
     /// A SELECT inside a bracket, and a semicolon behind it or none.
     pub fn subselect(&self, room: usize, cursor: &mut Cursor<'_>) -> Result<Select, Fault>
-        requires nests { Nests self.now.room (E.pre self.now.expr) (E.post self.now.expr) (S.pre self.now.select) (S.post self.now.select) }
+        requires nests { Nests self.now.room
+            (E.pre self.now.expr) (E.post self.now.expr)
+            (S.pre self.now.select) (S.post self.now.select) }
         requires within { room < self.now.room }
         ensures { Answers room subselect.rule subselect.tree cursor.old result cursor.new }
     {
@@ -59,7 +63,9 @@ impl<
 
     /// The members of an IN, inside its brackets.
     fn members(&self, room: usize, cursor: &mut Cursor<'_>) -> Result<Members, Fault>
-        requires nests { Nests self.now.room (E.pre self.now.expr) (E.post self.now.expr) (S.pre self.now.select) (S.post self.now.select) }
+        requires nests { Nests self.now.room
+            (E.pre self.now.expr) (E.post self.now.expr)
+            (S.pre self.now.select) (S.post self.now.select) }
         requires within { room < self.now.room }
         ensures { Answers room members.rule members.tree cursor.old result cursor.new }
     {
@@ -74,8 +80,11 @@ impl<
 
     /// IN and its members.
     fn member(&self, cursor: &mut Cursor<'_>, not: bool, part: Expr) -> Result<Expr, Fault>
-        requires { Nests self.now.room (E.pre self.now.expr) (E.post self.now.expr) (S.pre self.now.select) (S.post self.now.select) }
-        ensures { Answers self.now.room member_rule (member_of part not) cursor.old result cursor.new }
+        requires { Nests self.now.room
+            (E.pre self.now.expr) (E.post self.now.expr)
+            (S.pre self.now.select) (S.post self.now.select) }
+        ensures { Answers self.now.room member_rule (member_of part not)
+            cursor.old result cursor.new }
     {
         expect_word(cursor, Word::In)?;
         let members = in_brackets::<InnerMembers, _>(self.room, cursor, |room, cursor| {
@@ -98,8 +107,11 @@ impl<
 
     /// BETWEEN and its two bounds.
     fn range(&self, cursor: &mut Cursor<'_>, not: bool, part: Expr) -> Result<Expr, Fault>
-        requires { Nests self.now.room (E.pre self.now.expr) (E.post self.now.expr) (S.pre self.now.select) (S.post self.now.select) }
-        ensures { Answers self.now.room range_rule (range_of part not) cursor.old result cursor.new }
+        requires { Nests self.now.room
+            (E.pre self.now.expr) (E.post self.now.expr)
+            (S.pre self.now.select) (S.post self.now.select) }
+        ensures { Answers self.now.room range_rule (range_of part not)
+            cursor.old result cursor.new }
     {
         expect_word(cursor, Word::Between)?;
         let low = self.boxed_sum(cursor)?;
@@ -116,8 +128,11 @@ impl<
 
     /// IN or BETWEEN, with NOT before it or without.
     fn membership(&self, cursor: &mut Cursor<'_>, part: Expr) -> Result<Expr, Fault>
-        requires { Nests self.now.room (E.pre self.now.expr) (E.post self.now.expr) (S.pre self.now.select) (S.post self.now.select) }
-        ensures { Answers self.now.room membership_rule (membership_of part) cursor.old result cursor.new }
+        requires { Nests self.now.room
+            (E.pre self.now.expr) (E.post self.now.expr)
+            (S.pre self.now.select) (S.post self.now.select) }
+        ensures { Answers self.now.room membership_rule (membership_of part)
+            cursor.old result cursor.new }
     {
         let not = eat_word(cursor, Word::Not);
         if sees_word(cursor, Word::In) {
@@ -131,8 +146,11 @@ impl<
 
     /// A part, with the predicate behind it if there is one.
     pub fn maybe_predicate(&self, cursor: &mut Cursor<'_>, part: Expr) -> Result<Expr, Fault>
-        requires { Nests self.now.room (E.pre self.now.expr) (E.post self.now.expr) (S.pre self.now.select) (S.post self.now.select) }
-        ensures { Answers self.now.room (rule.maybe (rule.the rule.predicate)) (tested_of part) cursor.old result cursor.new }
+        requires { Nests self.now.room
+            (E.pre self.now.expr) (E.post self.now.expr)
+            (S.pre self.now.select) (S.post self.now.select) }
+        ensures { Answers self.now.room (rule.maybe (rule.the rule.predicate)) (tested_of part)
+            cursor.old result cursor.new }
     {
         if begins_membership(cursor) {
             return Ok(self.membership(cursor, part)?);

@@ -51,7 +51,9 @@ impl<
 > Parser<E, S> {
     /// An expression inside a bracket, where the room is smaller.
     fn inner_expr(&self, room: usize, cursor: &mut Cursor<'_>) -> Result<Expr, Fault>
-        requires nests { Nests self.now.room (E.pre self.now.expr) (E.post self.now.expr) (S.pre self.now.select) (S.post self.now.select) }
+        requires nests { Nests self.now.room
+            (E.pre self.now.expr) (E.post self.now.expr)
+            (S.pre self.now.select) (S.post self.now.select) }
         requires within { room < self.now.room }
         ensures { Answers room (rule.the rule.expr) expr_of cursor.old result cursor.new }
     {
@@ -60,9 +62,12 @@ impl<
 
     /// Expressions inside a bracket, where the room is smaller.
     pub fn exprs(&self, room: usize, cursor: &mut Cursor<'_>) -> Result<Exprs, Fault>
-        requires nests { Nests self.now.room (E.pre self.now.expr) (E.post self.now.expr) (S.pre self.now.select) (S.post self.now.select) }
+        requires nests { Nests self.now.room
+            (E.pre self.now.expr) (E.post self.now.expr)
+            (S.pre self.now.select) (S.post self.now.select) }
         requires within { room < self.now.room }
-        ensures { Answers room (rule.list (rule.the rule.expr)) exprs_of cursor.old result cursor.new }
+        ensures { Answers room (rule.list (rule.the rule.expr)) exprs_of
+            cursor.old result cursor.new }
     {
         list::<ExprList, _>(
             self.alloc,
@@ -74,9 +79,12 @@ impl<
 
     /// The parts of a call inside its brackets, or none.
     fn parts(&self, room: usize, cursor: &mut Cursor<'_>) -> Result<Exprs, Fault>
-        requires nests { Nests self.now.room (E.pre self.now.expr) (E.post self.now.expr) (S.pre self.now.select) (S.post self.now.select) }
+        requires nests { Nests self.now.room
+            (E.pre self.now.expr) (E.post self.now.expr)
+            (S.pre self.now.select) (S.post self.now.select) }
         requires within { room < self.now.room }
-        ensures { Answers room (rule.maybe (rule.list (rule.the rule.expr))) exprs_of cursor.old result cursor.new }
+        ensures { Answers room (rule.maybe (rule.list (rule.the rule.expr))) exprs_of
+            cursor.old result cursor.new }
     {
         if begins_expr(cursor) {
             Ok(self.exprs(room, cursor)?)
@@ -87,7 +95,9 @@ impl<
 
     /// What stands in the brackets of a call of count: whether it is `*`, and the parts.
     fn count_parts(&self, room: usize, cursor: &mut Cursor<'_>) -> Result<(bool, Exprs), Fault>
-        requires nests { Nests self.now.room (E.pre self.now.expr) (E.post self.now.expr) (S.pre self.now.select) (S.post self.now.select) }
+        requires nests { Nests self.now.room
+            (E.pre self.now.expr) (E.post self.now.expr)
+            (S.pre self.now.select) (S.post self.now.select) }
         requires within { room < self.now.room }
         ensures { Answers room (rule.maybe (rule.mark m.Star or rule.list (rule.the rule.expr))) count_parts_of cursor.old result cursor.new }
     {
@@ -100,9 +110,12 @@ impl<
 
     /// A name at the next token: a call, where it is that of a function directly before `(`, else a column.
     fn column_or_call(&self, cursor: &mut Cursor<'_>) -> Result<Expr, Fault>
-        requires nests { Nests self.now.room (E.pre self.now.expr) (E.post self.now.expr) (S.pre self.now.select) (S.post self.now.select) }
+        requires nests { Nests self.now.room
+            (E.pre self.now.expr) (E.post self.now.expr)
+            (S.pre self.now.select) (S.post self.now.select) }
         requires name { kind_at cursor.old ≡ Some kind.Name }
-        ensures { Answers self.now.room (rule.the rule.primary) expr_of cursor.old result cursor.new }
+        ensures { Answers self.now.room (rule.the rule.primary) expr_of
+            cursor.old result cursor.new }
     {
         if !sees_open_behind(cursor) {
             return Ok(column(self.alloc, cursor)?);
@@ -120,8 +133,11 @@ impl<
 
     /// The brackets of a call of count.
     fn count_call(&self, cursor: &mut Cursor<'_>) -> Result<Expr, Fault>
-        requires { Nests self.now.room (E.pre self.now.expr) (E.post self.now.expr) (S.pre self.now.select) (S.post self.now.select) }
-        ensures { AnswersEnclosed self.now.room count_parts.rule count_call_of cursor.old result cursor.new }
+        requires { Nests self.now.room
+            (E.pre self.now.expr) (E.post self.now.expr)
+            (S.pre self.now.select) (S.post self.now.select) }
+        ensures { AnswersEnclosed self.now.room count_parts.rule count_call_of
+            cursor.old result cursor.new }
     {
         let (star, parts) = in_brackets::<CountParts, _>(self.room, cursor, |room, cursor| {
             self.count_parts(room, cursor)
@@ -135,8 +151,11 @@ impl<
 
     /// The brackets of a call of another function.
     fn call(&self, function: Function, cursor: &mut Cursor<'_>) -> Result<Expr, Fault>
-        requires { Nests self.now.room (E.pre self.now.expr) (E.post self.now.expr) (S.pre self.now.select) (S.post self.now.select) }
-        ensures { AnswersEnclosed self.now.room parts.rule (call_of function) cursor.old result cursor.new }
+        requires { Nests self.now.room
+            (E.pre self.now.expr) (E.post self.now.expr)
+            (S.pre self.now.select) (S.post self.now.select) }
+        ensures { AnswersEnclosed self.now.room parts.rule (call_of function)
+            cursor.old result cursor.new }
     {
         let parts = in_brackets::<Parts, _>(self.room, cursor, |room, cursor| {
             self.parts(room, cursor)
@@ -150,9 +169,12 @@ impl<
 
     /// A keyword at the next token: a literal or a conversion.
     fn literal_or_conversion(&self, cursor: &mut Cursor<'_>) -> Result<Expr, Fault>
-        requires nests { Nests self.now.room (E.pre self.now.expr) (E.post self.now.expr) (S.pre self.now.select) (S.post self.now.select) }
+        requires nests { Nests self.now.room
+            (E.pre self.now.expr) (E.post self.now.expr)
+            (S.pre self.now.select) (S.post self.now.select) }
         requires word { (a : Word) × (kind_at cursor.old ≡ Some (kind.Word a)) }
-        ensures { Answers self.now.room (rule.the rule.primary) expr_of cursor.old result cursor.new }
+        ensures { Answers self.now.room (rule.the rule.primary) expr_of
+            cursor.old result cursor.new }
     {
         if sees_word(cursor, Word::True) {
             cursor.skip();
@@ -176,8 +198,11 @@ impl<
 
     /// An expression in brackets.
     fn inner(&self, cursor: &mut Cursor<'_>) -> Result<Boxed<Expr>, Fault>
-        requires { Nests self.now.room (E.pre self.now.expr) (E.post self.now.expr) (S.pre self.now.select) (S.post self.now.select) }
-        ensures { AnswersEnclosed self.now.room (rule.the rule.expr) expr_of cursor.old result cursor.new }
+        requires { Nests self.now.room
+            (E.pre self.now.expr) (E.post self.now.expr)
+            (S.pre self.now.select) (S.post self.now.select) }
+        ensures { AnswersEnclosed self.now.room (rule.the rule.expr) expr_of
+            cursor.old result cursor.new }
     {
         let part = in_brackets::<InnerExpr, _>(self.room, cursor, |room, cursor| {
             self.inner_expr(room, cursor)
@@ -187,8 +212,11 @@ impl<
 
     /// A part between operators: a literal, a column, a call, a conversion or brackets.
     pub fn primary(&self, cursor: &mut Cursor<'_>) -> Result<Expr, Fault>
-        requires { Nests self.now.room (E.pre self.now.expr) (E.post self.now.expr) (S.pre self.now.select) (S.post self.now.select) }
-        ensures { Answers self.now.room (rule.the rule.primary) expr_of cursor.old result cursor.new }
+        requires { Nests self.now.room
+            (E.pre self.now.expr) (E.post self.now.expr)
+            (S.pre self.now.select) (S.post self.now.select) }
+        ensures { Answers self.now.room (rule.the rule.primary) expr_of
+            cursor.old result cursor.new }
     {
         let Some(kind) = cursor.kind() else {
             return Err(unexpected(cursor));

@@ -44,8 +44,11 @@ impl<
 > Parser<E, S> {
     /// A statement that may be empty.
     fn maybe_statement(&self, cursor: &mut Cursor<'_>) -> Result<Option<Statement>, Fault>
-        requires { Nests self.now.room (E.pre self.now.expr) (E.post self.now.expr) (S.pre self.now.select) (S.post self.now.select) }
-        ensures { Answers self.now.room (rule.maybe (rule.the rule.statement)) maybe_statement_of cursor.old result cursor.new }
+        requires { Nests self.now.room
+            (E.pre self.now.expr) (E.post self.now.expr)
+            (S.pre self.now.select) (S.post self.now.select) }
+        ensures { Answers self.now.room (rule.maybe (rule.the rule.statement)) maybe_statement_of
+            cursor.old result cursor.new }
     {
         if !begins_statement(cursor) {
             return Ok(None);
@@ -55,7 +58,9 @@ impl<
 
     /// Adds the statements behind semicolons.
     fn add_later(&self, cursor: &mut Cursor<'_>, found: &mut Statements) -> Result<(), Fault>
-        requires { Nests self.now.room (E.pre self.now.expr) (E.post self.now.expr) (S.pre self.now.select) (S.post self.now.select) }
+        requires { Nests self.now.room
+            (E.pre self.now.expr) (E.post self.now.expr)
+            (S.pre self.now.select) (S.post self.now.select) }
         ensures ok { OnOk result (Adds self.now.room later_rule later_of cursor.old found.old cursor.new found.new) }
         ensures err { IfErr result (Fails self.now.room later_rule cursor.old) }
     {
@@ -94,13 +99,18 @@ fn statements(alloc: Global, cursor: &mut Cursor<'_>) -> Result<Statements, Faul
 pub fn script(alloc: Global, source: &[u8], tokens: Tokens) -> Result<Statements, ParseFault>
     requires { Reads source.now (Ok tokens) }
     ensures read { IfOk result (IsRead (lexemes source.now tokens)) }
-    ensures unexpected { (i : ℕ) → result ≡ Err (fault.Unexpected i) → IsUnexpected (lexemes source.now tokens) i }
-    ensures too_nested { (i : ℕ) → result ≡ Err (fault.TooNested i) → IsTooNested (lexemes source.now tokens) i }
+    ensures unexpected { (i : ℕ) → result ≡ Err (fault.Unexpected i)
+        → IsUnexpected (lexemes source.now tokens) i }
+    ensures too_nested { (i : ℕ) → result ≡ Err (fault.TooNested i)
+        → IsTooNested (lexemes source.now tokens) i }
 
     // Each of these is the answer where it holds, unless memory runs out.
-    ensures just_read { (ss : List Statement) → IsRead (lexemes source.now tokens) ss → (result ≡ Ok ss) ⊎ (result ≡ Err fault.NoMemory) }
-    ensures just_unexpected { (i : ℕ) → IsUnexpected (lexemes source.now tokens) i → (result ≡ Err (fault.Unexpected i)) ⊎ (result ≡ Err fault.NoMemory) }
-    ensures just_nested { (i : ℕ) → IsTooNested (lexemes source.now tokens) i → (result ≡ Err (fault.TooNested i)) ⊎ (result ≡ Err fault.NoMemory) }
+    ensures just_read { (ss : List Statement) → IsRead (lexemes source.now tokens) ss
+        → (result ≡ Ok ss) ⊎ (result ≡ Err fault.NoMemory) }
+    ensures just_unexpected { (i : ℕ) → IsUnexpected (lexemes source.now tokens) i
+        → (result ≡ Err (fault.Unexpected i)) ⊎ (result ≡ Err fault.NoMemory) }
+    ensures just_nested { (i : ℕ) → IsTooNested (lexemes source.now tokens) i
+        → (result ≡ Err (fault.TooNested i)) ⊎ (result ≡ Err fault.NoMemory) }
 
     // Laws of the words above, for every list of tokens.
     ensures laws { ScriptLaws }

@@ -62,7 +62,9 @@ impl<
 > Parser<E, S> {
     /// ORDER BY, its expressions and its direction, or nothing.
     fn order(&self, cursor: &mut Cursor<'_>) -> Result<(Exprs, bool), Fault>
-        requires { Nests self.now.room (E.pre self.now.expr) (E.post self.now.expr) (S.pre self.now.select) (S.post self.now.select) }
+        requires { Nests self.now.room
+            (E.pre self.now.expr) (E.post self.now.expr)
+            (S.pre self.now.select) (S.post self.now.select) }
         ensures { Answers self.now.room spec.order_rule spec.order_of cursor.old result cursor.new }
     {
         if !sees_word(cursor, Word::Order) {
@@ -82,8 +84,11 @@ impl<
         &self,
         cursor: &mut Cursor<'_>,
     ) -> Result<(Option<Boxed<Expr>>, Option<Boxed<Expr>>), Fault>
-        requires { Nests self.now.room (E.pre self.now.expr) (E.post self.now.expr) (S.pre self.now.select) (S.post self.now.select) }
-        ensures { Answers self.now.room spec.limits_rule spec.limits_of cursor.old result cursor.new }
+        requires { Nests self.now.room
+            (E.pre self.now.expr) (E.post self.now.expr)
+            (S.pre self.now.select) (S.post self.now.select) }
+        ensures { Answers self.now.room spec.limits_rule spec.limits_of
+            cursor.old result cursor.new }
     {
         let limit = self.clause(cursor, Word::Limit)?;
         let offset = self.clause(cursor, Word::Offset)?;
@@ -92,8 +97,11 @@ impl<
 
     /// What stands behind WHERE and GROUP BY.
     fn ending(&self, cursor: &mut Cursor<'_>) -> Result<Ending, Fault>
-        requires { Nests self.now.room (E.pre self.now.expr) (E.post self.now.expr) (S.pre self.now.select) (S.post self.now.select) }
-        ensures { Answers self.now.room spec.ending_rule spec.ending_of cursor.old result cursor.new }
+        requires { Nests self.now.room
+            (E.pre self.now.expr) (E.post self.now.expr)
+            (S.pre self.now.select) (S.post self.now.select) }
+        ensures { Answers self.now.room spec.ending_rule spec.ending_of
+            cursor.old result cursor.new }
     {
         let order = self.order(cursor)?;
         let limits = self.limits(cursor)?;
@@ -102,7 +110,9 @@ impl<
 
     /// WHERE, and what stands behind it.
     fn tail(&self, cursor: &mut Cursor<'_>) -> Result<Tail, Fault>
-        requires { Nests self.now.room (E.pre self.now.expr) (E.post self.now.expr) (S.pre self.now.select) (S.post self.now.select) }
+        requires { Nests self.now.room
+            (E.pre self.now.expr) (E.post self.now.expr)
+            (S.pre self.now.select) (S.post self.now.select) }
         ensures { Answers self.now.room spec.tail_rule spec.tail_of cursor.old result cursor.new }
     {
         let filter = self.clause(cursor, Word::Where)?;
@@ -117,8 +127,11 @@ impl<
 
     /// A SELECT.
     pub fn query(&self, cursor: &mut Cursor<'_>) -> Result<Select, Fault>
-        requires { Nests self.now.room (E.pre self.now.expr) (E.post self.now.expr) (S.pre self.now.select) (S.post self.now.select) }
-        ensures { Answers self.now.room (rule.the rule.select) select_of cursor.old result cursor.new }
+        requires { Nests self.now.room
+            (E.pre self.now.expr) (E.post self.now.expr)
+            (S.pre self.now.select) (S.post self.now.select) }
+        ensures { Answers self.now.room (rule.the rule.select) select_of
+            cursor.old result cursor.new }
     {
         expect_word(cursor, Word::Select)?;
         let distinct = eat_word(cursor, Word::Distinct);
@@ -141,8 +154,11 @@ impl<
     }
     /// A SELECT, on the heap.
     pub fn boxed_query(&self, cursor: &mut Cursor<'_>) -> Result<Boxed<Select>, Fault>
-        requires { Nests self.now.room (E.pre self.now.expr) (E.post self.now.expr) (S.pre self.now.select) (S.post self.now.select) }
-        ensures { Answers self.now.room (rule.the rule.select) select_of cursor.old result cursor.new }
+        requires { Nests self.now.room
+            (E.pre self.now.expr) (E.post self.now.expr)
+            (S.pre self.now.select) (S.post self.now.select) }
+        ensures { Answers self.now.room (rule.the rule.select) select_of
+            cursor.old result cursor.new }
     {
         let query = self.query(cursor)?;
         Ok(Boxed::new(self.alloc, query)?)

@@ -33,9 +33,12 @@ impl<
 > Parser<E, S> {
     /// A statement that begins with a keyword, the next token.
     fn statement_by_word(&self, cursor: &mut Cursor<'_>, word: Word) -> Result<Statement, Fault>
-        requires nests { Nests self.now.room (E.pre self.now.expr) (E.post self.now.expr) (S.pre self.now.select) (S.post self.now.select) }
+        requires nests { Nests self.now.room
+            (E.pre self.now.expr) (E.post self.now.expr)
+            (S.pre self.now.select) (S.post self.now.select) }
         requires next { kind_at cursor.old ≡ Some (kind.Word word) }
-        ensures { Answers self.now.room (rule.the rule.statement) statement_of cursor.old result cursor.new }
+        ensures { Answers self.now.room (rule.the rule.statement) statement_of
+            cursor.old result cursor.new }
     {
         match word {
             Word::Begin => begin(cursor),
@@ -61,8 +64,11 @@ impl<
 
     /// A statement.
     pub fn statement(&self, cursor: &mut Cursor<'_>) -> Result<Statement, Fault>
-        requires { Nests self.now.room (E.pre self.now.expr) (E.post self.now.expr) (S.pre self.now.select) (S.post self.now.select) }
-        ensures { Answers self.now.room (rule.the rule.statement) statement_of cursor.old result cursor.new }
+        requires { Nests self.now.room
+            (E.pre self.now.expr) (E.post self.now.expr)
+            (S.pre self.now.select) (S.post self.now.select) }
+        ensures { Answers self.now.room (rule.the rule.statement) statement_of
+            cursor.old result cursor.new }
     {
         let Some(kind) = cursor.kind() else {
             return Err(unexpected(cursor));

@@ -73,7 +73,8 @@ pub fn expect_mark(cursor: &mut Cursor<'_>, mark: Mark) -> Result<(), Fault>
 
 /// Takes a keyword, if it is the next token.
 pub fn eat_word(cursor: &mut Cursor<'_>, word: Word) -> bool
-    ensures { (n : ℕ) → Gives n (rule.maybe (rule.word word)) is_present cursor.old result cursor.new }
+    ensures { (n : ℕ) → Gives n (rule.maybe (rule.word word)) is_present
+        cursor.old result cursor.new }
 {
     let found = sees_word(cursor, word);
     if found {
@@ -107,7 +108,8 @@ pub fn eat_mark(cursor: &mut Cursor<'_>, mark: Mark) -> bool
     ensures found { result ≡ spec.sees (spec.is_mark mark) cursor.old }
     ensures taken { result ≡ true → cursor.new ≡ drop 1 cursor.old }
     ensures kept { result ≡ false → cursor.new ≡ cursor.old }
-    ensures read { (n : ℕ) → Gives n (rule.maybe (rule.mark mark)) is_present cursor.old result cursor.new }
+    ensures read { (n : ℕ) → Gives n (rule.maybe (rule.mark mark)) is_present
+        cursor.old result cursor.new }
 {
     let found = sees_mark(cursor, mark);
     if found {

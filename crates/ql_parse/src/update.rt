@@ -35,7 +35,9 @@ impl<
 > Parser<E, S> {
     /// An assignment of an UPDATE.
     fn assign(&self, cursor: &mut Cursor<'_>) -> Result<Assign, Fault>
-        requires { Nests self.now.room (E.pre self.now.expr) (E.post self.now.expr) (S.pre self.now.select) (S.post self.now.select) }
+        requires { Nests self.now.room
+            (E.pre self.now.expr) (E.post self.now.expr)
+            (S.pre self.now.select) (S.post self.now.select) }
         ensures { Answers self.now.room spec.assign_rule assign_of cursor.old result cursor.new }
     {
         let column = expect_name(self.alloc, cursor)?;
@@ -46,8 +48,11 @@ impl<
 
     /// UPDATE.
     pub fn update(&self, cursor: &mut Cursor<'_>) -> Result<Statement, Fault>
-        requires { Nests self.now.room (E.pre self.now.expr) (E.post self.now.expr) (S.pre self.now.select) (S.post self.now.select) }
-        ensures { Answers self.now.room (rule.the rule.update) update_of cursor.old result cursor.new }
+        requires { Nests self.now.room
+            (E.pre self.now.expr) (E.post self.now.expr)
+            (S.pre self.now.select) (S.post self.now.select) }
+        ensures { Answers self.now.room (rule.the rule.update) update_of
+            cursor.old result cursor.new }
     {
         expect_word(cursor, Word::Update)?;
         let table = expect_name(self.alloc, cursor)?;
@@ -65,8 +70,11 @@ impl<
 
     /// DELETE.
     pub fn deletion(&self, cursor: &mut Cursor<'_>) -> Result<Statement, Fault>
-        requires { Nests self.now.room (E.pre self.now.expr) (E.post self.now.expr) (S.pre self.now.select) (S.post self.now.select) }
-        ensures { Answers self.now.room (rule.the rule.deletion) deletion_of cursor.old result cursor.new }
+        requires { Nests self.now.room
+            (E.pre self.now.expr) (E.post self.now.expr)
+            (S.pre self.now.select) (S.post self.now.select) }
+        ensures { Answers self.now.room (rule.the rule.deletion) deletion_of
+            cursor.old result cursor.new }
     {
         expect_word(cursor, Word::Delete)?;
         expect_word(cursor, Word::From)?;
