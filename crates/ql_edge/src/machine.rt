@@ -13,10 +13,14 @@ pub trait Machine: Shows {
     fn read(&mut self, out: &mut [u8]) -> Result<u64, DeviceFault>
         requires { 0 < length out.old }
         ensures within { IfOk result (λ n. n ≤ length out.old) }
-        ensures taken { IfOk result (λ n. IfSome (Self.left self.old) (λ script. take n out.new ≡ take n script)) }
-        ensures front { IfOk result (λ n. IfSome (Self.left self.old) (λ script. n ≤ length script)) }
-        ensures end { IfOk result (λ n. IfSome (Self.left self.old) (λ script. (n ≡ 0) ↔ (script ≡ []))) }
-        ensures left { IfOk result (λ n. Self.left self.new ≡ option_map (drop n) (Self.left self.old)) }
+        ensures taken { IfOk result (λ n. IfSome (Self.left self.old)
+            (λ script. take n out.new ≡ take n script)) }
+        ensures front { IfOk result (λ n. IfSome (Self.left self.old)
+            (λ script. n ≤ length script)) }
+        ensures end { IfOk result (λ n. IfSome (Self.left self.old) (λ script. (n ≡ 0)
+            ↔ (script ≡ []))) }
+        ensures left { IfOk result (λ n. Self.left self.new ≡ option_map (drop n)
+            (Self.left self.old)) }
         ensures refused { OnErr result (Self.left self.new ≡ Self.left self.old) }
         ensures frame { Keeps Self.told Self.fixed self.old self.new }
         ensures cause { IsCaused result (Self.faults self.old) (Self.faults self.new) };

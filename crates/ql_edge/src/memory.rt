@@ -151,16 +151,22 @@ impl Shows for MemMachine {
     fn show(&mut self, piece: &[u8]) -> Result<u64, DeviceFault>
         ensures within { IfOk result (λ n. n ≤ length piece.now) }
         ensures some { IfOk result (λ n. 0 < length piece.now → 0 < n) }
-        ensures shown { IfOk result (λ n. ⟦<MemMachine as Shows>⟧.told self.new ≡ with_shown (take n piece.now) (⟦<MemMachine as Shows>⟧.told self.old)) }
-        ensures refused { OnErr result (⟦<MemMachine as Shows>⟧.told self.new ≡ ⟦<MemMachine as Shows>⟧.told self.old) }
+        ensures shown { IfOk result (λ n. ⟦<MemMachine as Shows>⟧.told self.new
+            ≡ with_shown (take n piece.now) (⟦<MemMachine as Shows>⟧.told self.old)) }
+        ensures refused { OnErr result (⟦<MemMachine as Shows>⟧.told self.new
+            ≡ ⟦<MemMachine as Shows>⟧.told self.old) }
         ensures same { ⟦<MemMachine as Shows>⟧.same self.old self.new }
-        ensures frame { Keeps ⟦<MemMachine as Shows>⟧.left ⟦<MemMachine as Shows>⟧.fixed self.old self.new }
-        ensures cause { IsCaused result (⟦<MemMachine as Shows>⟧.faults self.old) (⟦<MemMachine as Shows>⟧.faults self.new) }
+        ensures frame { Keeps ⟦<MemMachine as Shows>⟧.left ⟦<MemMachine as Shows>⟧.fixed self.old
+            self.new }
+        ensures cause { IsCaused result (⟦<MemMachine as Shows>⟧.faults self.old)
+            (⟦<MemMachine as Shows>⟧.faults self.new) }
 
         // What the plan says.
         ensures counts { CountsCall result self.old self.new }
-        ensures planned { IfOk result (λ n. ¬ IsRefused self.old × (n ≡ room_of self.old (length piece.now))) }
-        ensures fails { result ≡ Err device.Failed → IsRefused self.old ⊎ ((0 < length piece.now) × (room_of self.old (length piece.now) ≡ 0)) }
+        ensures planned { IfOk result (λ n. ¬ IsRefused self.old
+            × (n ≡ room_of self.old (length piece.now))) }
+        ensures fails { result ≡ Err device.Failed → IsRefused self.old
+            ⊎ ((0 < length piece.now) × (room_of self.old (length piece.now) ≡ 0)) }
     {
         check_plan(&self.plan.fails, &mut self.calls, &mut self.faults)?;
         let mut room = piece.len();
@@ -178,11 +184,15 @@ impl Shows for MemMachine {
     fn warn(&mut self, piece: &[u8]) -> Result<u64, DeviceFault>
         ensures within { IfOk result (λ n. n ≤ length piece.now) }
         ensures some { IfOk result (λ n. 0 < length piece.now → 0 < n) }
-        ensures warned { IfOk result (λ n. ⟦<MemMachine as Shows>⟧.told self.new ≡ with_warned (take n piece.now) (⟦<MemMachine as Shows>⟧.told self.old)) }
-        ensures refused { OnErr result (⟦<MemMachine as Shows>⟧.told self.new ≡ ⟦<MemMachine as Shows>⟧.told self.old) }
+        ensures warned { IfOk result (λ n. ⟦<MemMachine as Shows>⟧.told self.new
+            ≡ with_warned (take n piece.now) (⟦<MemMachine as Shows>⟧.told self.old)) }
+        ensures refused { OnErr result (⟦<MemMachine as Shows>⟧.told self.new
+            ≡ ⟦<MemMachine as Shows>⟧.told self.old) }
         ensures same { ⟦<MemMachine as Shows>⟧.same self.old self.new }
-        ensures frame { Keeps ⟦<MemMachine as Shows>⟧.left ⟦<MemMachine as Shows>⟧.fixed self.old self.new }
-        ensures cause { IsCaused result (⟦<MemMachine as Shows>⟧.faults self.old) (⟦<MemMachine as Shows>⟧.faults self.new) }
+        ensures frame { Keeps ⟦<MemMachine as Shows>⟧.left ⟦<MemMachine as Shows>⟧.fixed self.old
+            self.new }
+        ensures cause { IsCaused result (⟦<MemMachine as Shows>⟧.faults self.old)
+            (⟦<MemMachine as Shows>⟧.faults self.new) }
 
         // What the plan says.
         ensures counts { CountsCall result self.old self.new }
@@ -202,17 +212,27 @@ impl Machine for MemMachine {
     fn read(&mut self, out: &mut [u8]) -> Result<u64, DeviceFault>
         requires { 0 < length out.old }
         ensures within { IfOk result (λ n. n ≤ length out.old) }
-        ensures taken { IfOk result (λ n. IfSome (⟦<MemMachine as Shows>⟧.left self.old) (λ script. take n out.new ≡ take n script)) }
-        ensures front { IfOk result (λ n. IfSome (⟦<MemMachine as Shows>⟧.left self.old) (λ script. n ≤ length script)) }
-        ensures end { IfOk result (λ n. IfSome (⟦<MemMachine as Shows>⟧.left self.old) (λ script. (n ≡ 0) ↔ (script ≡ []))) }
-        ensures left { IfOk result (λ n. ⟦<MemMachine as Shows>⟧.left self.new ≡ option_map (drop n) (⟦<MemMachine as Shows>⟧.left self.old)) }
-        ensures refused { OnErr result (⟦<MemMachine as Shows>⟧.left self.new ≡ ⟦<MemMachine as Shows>⟧.left self.old) }
-        ensures frame { Keeps ⟦<MemMachine as Shows>⟧.told ⟦<MemMachine as Shows>⟧.fixed self.old self.new }
-        ensures cause { IsCaused result (⟦<MemMachine as Shows>⟧.faults self.old) (⟦<MemMachine as Shows>⟧.faults self.new) }
+        ensures taken { IfOk result (λ n. IfSome (⟦<MemMachine as Shows>⟧.left self.old)
+            (λ script. take n out.new ≡ take n script)) }
+        ensures front { IfOk result (λ n. IfSome (⟦<MemMachine as Shows>⟧.left self.old)
+            (λ script. n ≤ length script)) }
+        ensures end { IfOk result (λ n. IfSome (⟦<MemMachine as Shows>⟧.left self.old)
+            (λ script. (n ≡ 0) ↔ (script ≡ []))) }
+        ensures left { IfOk result (λ n. ⟦<MemMachine as Shows>⟧.left self.new
+            ≡ option_map (drop n) (⟦<MemMachine as Shows>⟧.left self.old)) }
+        ensures refused { OnErr result (⟦<MemMachine as Shows>⟧.left self.new
+            ≡ ⟦<MemMachine as Shows>⟧.left self.old) }
+        ensures frame { Keeps ⟦<MemMachine as Shows>⟧.told ⟦<MemMachine as Shows>⟧.fixed self.old
+            self.new }
+        ensures cause { IsCaused result (⟦<MemMachine as Shows>⟧.faults self.old)
+            (⟦<MemMachine as Shows>⟧.faults self.new) }
 
         // What the plan says.
         ensures counts { CountsCall result self.old self.new }
-        ensures planned { IfOk result (λ n. ¬ IsRefused self.old × IfSome (⟦<MemMachine as Shows>⟧.left self.old) (λ script. n ≡ min (length out.old) (min (plan_of self.old).read_most (length script)))) }
+        ensures planned { IfOk result (λ n. ¬ IsRefused self.old
+            × IfSome (⟦<MemMachine as Shows>⟧.left self.old)
+            (λ script. n ≡ min (length out.old) (min (plan_of self.old).read_most
+            (length script)))) }
         ensures fails { result ≡ Err device.Failed → IsRefused self.old }
     {
         check_plan(&self.plan.fails, &mut self.calls, &mut self.faults)?;

@@ -29,7 +29,8 @@ pub trait Shows {
     fn show(&mut self, piece: &[u8]) -> Result<u64, DeviceFault>
         ensures within { IfOk result (λ n. n ≤ length piece.now) }
         ensures some { IfOk result (λ n. 0 < length piece.now → 0 < n) }
-        ensures shown { IfOk result (λ n. told self.new ≡ with_shown (take n piece.now) (told self.old)) }
+        ensures shown { IfOk result (λ n. told self.new ≡ with_shown (take n piece.now)
+            (told self.old)) }
         ensures refused { OnErr result (told self.new ≡ told self.old) }
         ensures same { same self.old self.new }
         ensures frame { Keeps left fixed self.old self.new }
@@ -39,7 +40,8 @@ pub trait Shows {
     fn warn(&mut self, piece: &[u8]) -> Result<u64, DeviceFault>
         ensures within { IfOk result (λ n. n ≤ length piece.now) }
         ensures some { IfOk result (λ n. 0 < length piece.now → 0 < n) }
-        ensures warned { IfOk result (λ n. told self.new ≡ with_warned (take n piece.now) (told self.old)) }
+        ensures warned { IfOk result (λ n. told self.new ≡ with_warned (take n piece.now)
+            (told self.old)) }
         ensures refused { OnErr result (told self.new ≡ told self.old) }
         ensures same { same self.old self.new }
         ensures frame { Keeps left fixed self.old self.new }
@@ -54,7 +56,8 @@ pub trait Shows {
 #[tactic(auto, using(crate::proofs::Whole::with_shown_more))]
 pub fn show_all<S: Shows>(to: &mut S, text: &[u8]) -> Result<(), DeviceFault>
     ensures shown { OnOk result (S.told to.new ≡ with_shown text.now (S.told to.old)) }
-    ensures refused { OnErr result ((n : ℕ) × (n < length text.now) × (S.told to.new ≡ with_shown (take n text.now) (S.told to.old))) }
+    ensures refused { OnErr result ((n : ℕ) × (n < length text.now)
+        × (S.told to.new ≡ with_shown (take n text.now) (S.told to.old))) }
     ensures same { S.same to.old to.new }
     ensures frame { Keeps S.left S.fixed to.old to.new }
     ensures cause { IsCaused result (S.faults to.old) (S.faults to.new) }
@@ -71,7 +74,8 @@ pub fn show_all<S: Shows>(to: &mut S, text: &[u8]) -> Result<(), DeviceFault>
 #[tactic(auto, using(crate::proofs::Whole::with_warned_more))]
 pub fn warn_all<S: Shows>(to: &mut S, text: &[u8]) -> Result<(), DeviceFault>
     ensures warned { OnOk result (S.told to.new ≡ with_warned text.now (S.told to.old)) }
-    ensures refused { OnErr result ((n : ℕ) × (n < length text.now) × (S.told to.new ≡ with_warned (take n text.now) (S.told to.old))) }
+    ensures refused { OnErr result ((n : ℕ) × (n < length text.now)
+        × (S.told to.new ≡ with_warned (take n text.now) (S.told to.old))) }
     ensures same { S.same to.old to.new }
     ensures frame { Keeps S.left S.fixed to.old to.new }
     ensures cause { IsCaused result (S.faults to.old) (S.faults to.new) }

@@ -84,7 +84,8 @@ fn digits_at(base: u64, count: usize, text: &[u8]) -> Result<(&[u8], &[u8]), Fla
 fn byte_escape(base: u64, count: usize, so_far: u64, text: &[u8]) -> Result<(Code, &[u8]), Flaw>
     requires { 0 < base }
     ensures { MatchResult result
-        (λ e. spec.byte_of_digits base so_far (spec.digits_at base count text.now) ≡ Ok (e.0, e.1.now))
+        (λ e. spec.byte_of_digits base so_far (spec.digits_at base count text.now)
+        ≡ Ok (e.0, e.1.now))
         (λ f. spec.byte_of_digits base so_far (spec.digits_at base count text.now) ≡ Err f) }
 {
     let (front, behind) = digits_at(base, count, text)?;

@@ -17,7 +17,8 @@ pub fn tokens(alloc: Global, source: &[u8]) -> Result<Tokens, LexFault>
     ensures each { IfOk result (All (IsIn source.now)) }
 
     // What the script comes to is the answer, unless memory runs out.
-    ensures only { (o : Outcome) → Reads source.now o → (result ≡ o) ⊎ (result ≡ Err fault.NoMemory) }
+    ensures only { (o : Outcome) → Reads source.now o → (result ≡ o)
+        ⊎ (result ≡ Err fault.NoMemory) }
 
     // Three laws of the words above: the longest piece counts, and every script comes to one thing, and to one alone.
     ensures longest { LongestCounts }

@@ -42,7 +42,8 @@ fn kind_of(word: &[u8]) -> TokenKind
 
 fn word_piece<'a>(b: u8, rest: &'a [u8], z: &'a [u8]) -> Result<Cut<'a>, Flaw>
     requires { z.now ≡ b ∷ rest.now }
-    ensures { MatchResult result (λ cut. Cuts begin.Word b rest.now cut.piece cut.rest.now) (Spoils begin.Word b rest.now) }
+    ensures { MatchResult result (λ cut. Cuts begin.Word b rest.now cut.piece cut.rest.now)
+        (Spoils begin.Word b rest.now) }
 {
     let (word, behind) = word_at(b, rest, z);
     let len = word.len();
@@ -57,7 +58,8 @@ fn word_piece<'a>(b: u8, rest: &'a [u8], z: &'a [u8]) -> Result<Cut<'a>, Flaw>
 
 fn number_piece<'a>(b: u8, rest: &'a [u8], z: &'a [u8]) -> Result<Cut<'a>, Flaw>
     requires { z.now ≡ b ∷ rest.now }
-    ensures { MatchResult result (λ cut. Cuts begin.Number b rest.now cut.piece cut.rest.now) (Spoils begin.Number b rest.now) }
+    ensures { MatchResult result (λ cut. Cuts begin.Number b rest.now cut.piece cut.rest.now)
+        (Spoils begin.Number b rest.now) }
 {
     let (word, behind) = word_at(b, rest, z);
     match number(word) {
@@ -70,7 +72,8 @@ fn number_piece<'a>(b: u8, rest: &'a [u8], z: &'a [u8]) -> Result<Cut<'a>, Flaw>
 }
 
 fn raw_piece<'a>(b: u8, rest: &'a [u8]) -> Result<Cut<'a>, Flaw>
-    ensures { MatchResult result (λ cut. Cuts begin.RawString b rest.now cut.piece cut.rest.now) (Spoils begin.RawString b rest.now) }
+    ensures { MatchResult result (λ cut. Cuts begin.RawString b rest.now cut.piece cut.rest.now)
+        (Spoils begin.RawString b rest.now) }
 {
     match first(after_run(Run::Raw, rest)) {
         Some((_, behind)) => Ok(Cut {
@@ -82,7 +85,8 @@ fn raw_piece<'a>(b: u8, rest: &'a [u8]) -> Result<Cut<'a>, Flaw>
 }
 
 fn string_piece<'a>(b: u8, rest: &'a [u8]) -> Result<Cut<'a>, Flaw>
-    ensures { MatchResult result (λ cut. Cuts begin.String b rest.now cut.piece cut.rest.now) (Spoils begin.String b rest.now) }
+    ensures { MatchResult result (λ cut. Cuts begin.String b rest.now cut.piece cut.rest.now)
+        (Spoils begin.String b rest.now) }
 {
     match after_string(rest) {
         Ok(behind) => Ok(Cut {
@@ -103,7 +107,8 @@ fn line_piece<'a>(b: u8, rest: &'a [u8]) -> Cut<'a>
 }
 
 fn block_piece<'a>(b: u8, rest: &'a [u8]) -> Result<Cut<'a>, Flaw>
-    ensures { MatchResult result (λ cut. Cuts begin.BlockComment b rest.now cut.piece cut.rest.now) (Spoils begin.BlockComment b rest.now) }
+    ensures { MatchResult result (λ cut. Cuts begin.BlockComment b rest.now cut.piece cut.rest.now)
+        (Spoils begin.BlockComment b rest.now) }
 {
     match after_comment(tail(rest)) {
         Some(behind) => Ok(Cut {
@@ -116,7 +121,8 @@ fn block_piece<'a>(b: u8, rest: &'a [u8]) -> Result<Cut<'a>, Flaw>
 
 fn mark_piece<'a>(b: u8, rest: &'a [u8], z: &'a [u8]) -> Result<Cut<'a>, Flaw>
     requires { z.now ≡ b ∷ rest.now }
-    ensures { MatchResult result (λ cut. Cuts begin.Other b rest.now cut.piece cut.rest.now) (Spoils begin.Other b rest.now) }
+    ensures { MatchResult result (λ cut. Cuts begin.Other b rest.now cut.piece cut.rest.now)
+        (Spoils begin.Other b rest.now) }
 {
     match mark_at(z) {
         Some((mark, behind)) => Ok(Cut {

@@ -32,7 +32,8 @@ pub fn byte_in_string(b: u8) -> StringByte
 /// What stands behind an interpreted string. The text begins behind its opening quote.
 #[tactic(auto, using(crate::proofs::StringLemmas::goes_on_same, crate::proofs::StringLemmas::over_plain, crate::proofs::StringLemmas::over_escape, crate::proofs::StringLemmas::at_quote, crate::proofs::StringLemmas::at_newline, crate::proofs::StringLemmas::at_end, crate::proofs::StringLemmas::at_bad_escape))]
 pub fn after_string(text: &[u8]) -> Result<&[u8], Flaw>
-    ensures { MatchResult result (λ rest. spec.ClosesString text.now rest.now) (spec.SpoilsString text.now) }
+    ensures { MatchResult result (λ rest. spec.ClosesString text.now rest.now)
+        (spec.SpoilsString text.now) }
 {
     let mut z = text;
     'bytes: while let Some((b, rest)) = first(z) {

@@ -250,7 +250,8 @@ fn words_from(b: u8) -> &'static [Word]
 
 /// The first of the keywords that the bytes spell.
 fn among(words: &[Word], run: &[u8]) -> Option<Word>
-    ensures { MatchOption result (All (λ word. IsWord run.now word → ⊥) words.now) (IsWord run.now) }
+    ensures { MatchOption result (All (λ word. IsWord run.now word → ⊥) words.now)
+        (IsWord run.now) }
 {
     for word in words {
         if run.eq_ignore_ascii_case(spelling(*word)) {

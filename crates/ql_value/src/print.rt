@@ -101,7 +101,8 @@ fn print_run(bytes: &[u8], in_blob: bool, out: &mut Bytes) -> Result<usize, NoMe
     requires { 0 < length bytes.now }
     ensures some { IfOk result (λ count. 0 < count) }
     ensures within { IfOk result (λ count. count ≤ length bytes.now) }
-    ensures ok { IfOk result (λ count. out.new ≡ out.old ++ shown_bytes in_blob (take count bytes.now)) }
+    ensures ok { IfOk result (λ count. out.new ≡ out.old ++ shown_bytes in_blob
+        (take count bytes.now)) }
     ensures err { OnErr result (AddsFront out.old out.new (shown_bytes in_blob bytes.now)) }
 {
     let plain = plain_front(bytes, in_blob);
