@@ -24,7 +24,8 @@ impl<
         requires { Nests self.now.room
             (E.pre self.now.expr) (E.post self.now.expr)
             (S.pre self.now.select) (S.post self.now.select) }
-        ensures { Answers self.now.room (rule.maybe (rule.word word then rule.the rule.expr)) option_of cursor.old result cursor.new }
+        ensures { Answers self.now.room (rule.maybe (rule.word word then rule.the rule.expr))
+            option_of cursor.old result cursor.new }
     {
         if !sees_word(cursor, word) {
             return Ok(None);

@@ -11,7 +11,7 @@ use ql_lex::{Token, TokenKind, Tokens, number_of, text_of};
 use std::alloc::Global;
 use std::marker::Model;
 
-/// How much room for tokens that were read is kept at most.
+/// For how many tokens that were read room is kept at most, before it is given back.
 const ROOM_KEPT: usize = 65_536;
 
 /// The tokens of a source that are left to read. Contracts see them with their spellings.
@@ -24,7 +24,9 @@ pub struct Cursor<'a> {
 
 /// The next token and those behind it, where tokens stand in reverse order.
 fn next(tokens: &[Token]) -> Option<(Token, &[Token])>
-    ensures { MatchOption result (reverse tokens.now ≡ []) (λ p. reverse tokens.now ≡ p.0 ∷ reverse p.1.now) }
+    ensures { MatchOption result
+        (reverse tokens.now ≡ [])
+        (λ p. reverse tokens.now ≡ p.0 ∷ reverse p.1.now) }
 {
     let (token, rest) = tokens.split_last()?;
     Some((*token, rest))

@@ -99,7 +99,8 @@ impl<
             (E.pre self.now.expr) (E.post self.now.expr)
             (S.pre self.now.select) (S.post self.now.select) }
         requires within { room < self.now.room }
-        ensures { Answers room (rule.maybe (rule.mark m.Star or rule.list (rule.the rule.expr))) count_parts_of cursor.old result cursor.new }
+        ensures { Answers room (rule.maybe (rule.mark m.Star or rule.list (rule.the rule.expr)))
+            count_parts_of cursor.old result cursor.new }
     {
         if eat_mark(cursor, Mark::Star) {
             return Ok((true, Exprs::new(self.alloc)));
@@ -108,7 +109,8 @@ impl<
         Ok((false, parts))
     }
 
-    /// A name at the next token: a call, where it is that of a function directly before `(`, else a column.
+    /// A name at the next token: a call, where it is that of a function directly before `(`, else
+    /// a column.
     fn column_or_call(&self, cursor: &mut Cursor<'_>) -> Result<Expr, Fault>
         requires nests { Nests self.now.room
             (E.pre self.now.expr) (E.post self.now.expr)

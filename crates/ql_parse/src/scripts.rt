@@ -61,7 +61,8 @@ impl<
         requires { Nests self.now.room
             (E.pre self.now.expr) (E.post self.now.expr)
             (S.pre self.now.select) (S.post self.now.select) }
-        ensures ok { OnOk result (Adds self.now.room later_rule later_of cursor.old found.old cursor.new found.new) }
+        ensures ok { OnOk result (Adds self.now.room later_rule later_of
+            cursor.old found.old cursor.new found.new) }
         ensures err { IfErr result (Fails self.now.room later_rule cursor.old) }
     {
         'later: while eat_mark(cursor, Mark::Semicolon) {
