@@ -12,10 +12,10 @@ use Rattle.ql_syntax.specs.Lexemes.{Lexeme, sees, sees_two}
 use Rattle.ql_parse.specs.Nests.{Nests}
 use Rattle.ql_syntax.specs.Trees.{name_of}
 use Rattle.ql_lex.specs.declared.words.Word.{Word}
-use Rattle.ql_syntax.specs.Rules.{creation, removal, alteration, before, bracketed}
+use Rattle.ql_syntax.specs.Rules.{item_rule, creation, removal, alteration, before, bracketed}
 use Rattle.ql_parse.specs.Parses.{Gives, no_value}
 use Rattle.ql_syntax.specs.Readings.{Parse, Reads, leaf, takes_before, pair, left, right, group, node, both, first, second, enclosed}
-use Rattle.ql_parse.specs.StatementParts.{item_rule, one_item_of, table_rule, table_of, index_rule, index_of, table_or_index_rule, table_or_index_of, quiet_rule, quiet_of, change_rule, change_of}
+use Rattle.ql_parse.specs.StatementParts.{one_item_of, table_rule, table_of, index_rule, index_of, table_or_index_rule, table_or_index_of, quiet_rule, quiet_of, change_rule, change_of}
 use Rattle.ql_syntax.specs.Statements.{item_of, creation_of, removal_of, alteration_of}
 use Rattle.ql_syntax.specs.declared.statement.Assign.{Assign}
 use Rattle.ql_syntax.specs.declared.statement.Item.{Item}

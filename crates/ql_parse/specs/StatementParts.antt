@@ -9,7 +9,7 @@ use Rattle.ql_syntax.specs.declared.statement.Statement.{Statement}
 use Rattle.ql_syntax.specs.declared.statement.Statement.TheVariants as s
 use Rattle.ql_syntax.specs.declared.syntax.Expr.{Expr}
 use Rattle.ql_syntax.specs.Lexemes.{is_id, is_open}
-use Rattle.ql_syntax.specs.Rules.{Rule, ◌then◌, ◌or◌, the, column, expr, select, before, nothing, maybe, bracketed, list, name, word, mark, if_exists, if_not_exists}
+use Rattle.ql_syntax.specs.Rules.{item_rule, Rule, ◌then◌, ◌or◌, the, column, expr, select, maybe, bracketed, list, name, word, mark, if_exists, if_not_exists}
 use Rattle.ql_syntax.specs.Readings.{Parse, pair, left, right, group}
 use Rattle.ql_syntax.specs.Statements.{is_not_null, rule_in, columns_of, item_of, column_of}
 use Rattle.ql_syntax.specs.Trees.{name_of, is_present}
@@ -29,10 +29,6 @@ table_rule = word w.Table then maybe if_not_exists then name then bracketed (lis
 abbrev pub table_of : Parse → Statement
 table_of (pair _ (pair q (pair n (group a)))) = s.CreateTable (is_present q) (name_of n) (columns_of a)
 table_of _ = s.Begin
-
--- `id "(" ")" | name`
-abbrev pub item_rule : Rule
-item_rule = before is_id is_open then bracketed nothing or name
 
 abbrev pub one_item_of : Parse → Item
 one_item_of (right n) = item.Column (name_of n)

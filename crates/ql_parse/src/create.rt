@@ -79,7 +79,7 @@ fn begins_index(cursor: &Cursor<'_>) -> bool
 
 /// What an index orders by, inside its brackets.
 fn one_item(alloc: Global, room: usize, cursor: &mut Cursor<'_>) -> Result<Item, Fault>
-    ensures { Answers room spec.item_rule spec.one_item_of cursor.old result cursor.new }
+    ensures { Answers room rule.item_rule spec.one_item_of cursor.old result cursor.new }
 {
     if sees_id(cursor) {
         cursor.skip();

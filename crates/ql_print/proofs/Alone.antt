@@ -12,10 +12,10 @@ use Rattle.ql_syntax.specs.Lexemes.{Lexeme, lexemes}
 use Rattle.ql_syntax.specs.Printing.{Inks, ink_of_expr}
 use Rattle.ql_syntax.specs.Readings.{Parse, Reads}
 use Rattle.ql_syntax.specs.Readings as r
-use Rattle.ql_syntax.specs.Rules.{Rule, ◌then◌, ◌or◌, maybe, word, the, expr, column}
+use Rattle.ql_syntax.specs.Rules.{item_rule, Rule, ◌then◌, ◌or◌, maybe, word, the, expr, column}
 use Rattle.ql_syntax.specs.StatementPrinting.{ink_of_column, ink_of_item}
 use Rattle.ql_syntax.specs.Statements.{column_of, rule_in}
-use Rattle.ql_syntax.specs.StoredParts.{item, inner_item_of, WasRead, IsReadFrom, IsExprBack, IsColumnBack, IsItemBack, ExprsReadBack, ColumnsReadBack, ItemsReadBack}
+use Rattle.ql_syntax.specs.StoredParts.{inner_item_of, WasRead, IsReadFrom, IsExprBack, IsColumnBack, IsItemBack, ExprsReadBack, ColumnsReadBack, ItemsReadBack}
 use Rattle.ql_syntax.specs.Trees.{expr_of, option_of}
 use Rattle.ql_print.proofs.Back.{exprs_again}
 use Rattle.ql_print.proofs.BackColumns.{back_column_def}
@@ -154,7 +154,7 @@ columns_read_back room x h =
 
 -- what an index orders by
 
-item_alone : {n : ℕ} {ts rest : List Lexeme} {a : Parse} → Reads n item ts a rest → IsKnown n item a → IsItemBack n (inner_item_of a)
+item_alone : {n : ℕ} {ts rest : List Lexeme} {a : Parse} → Reads n item_rule ts a rest → IsKnown n item_rule a → IsItemBack n (inner_item_of a)
 item_alone {a = a} h k =
     let it : Item = inner_item_of a in
     let b = back_inner_item h [] refl in

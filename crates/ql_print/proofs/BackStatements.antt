@@ -13,10 +13,10 @@ use Rattle.ql_syntax.specs.declared.statement.Statement.TheVariants as s
 use Rattle.ql_syntax.specs.declared.syntax.Expr.{Expr}
 use Rattle.ql_syntax.specs.declared.syntax.Select.{Select}
 use Rattle.ql_syntax.specs.Lexemes.{Lexeme, is_word, is_comma, is_open, is_id, sees}
-use Rattle.ql_syntax.specs.Rules.{Rule, before, nothing, ◌then◌, ◌or◌, maybe, list, bracketed, if_exists, if_not_exists, mark, word, name, the, expr, select, statement, creation, removal, alteration, insertion, update, deletion, column}
+use Rattle.ql_syntax.specs.Rules.{item_rule, Rule, before, nothing, ◌then◌, ◌or◌, maybe, list, bracketed, if_exists, if_not_exists, mark, word, name, the, expr, select, statement, creation, removal, alteration, insertion, update, deletion, column}
 use Rattle.ql_syntax.specs.Readings.{Parse, Reads, leaf, pair, left, right, absent, present, group, node}
 use Rattle.ql_syntax.specs.Readings as r
-use Rattle.ql_syntax.specs.StoredParts.{item, inner_item_of}
+use Rattle.ql_syntax.specs.StoredParts.{inner_item_of}
 use Rattle.ql_syntax.specs.Trees.{is_present}
 use Rattle.ql_syntax.specs.Statements.{source_of, column_of, columns_of, row_of, rows_of, assign_of, assigns_of, item_of, creation_of, removal_of, alteration_of, insertion_of, update_of, deletion_of, after_removal, statement_of}
 use Rattle.ql_syntax.specs.ReadsBack.{plain_expr, plain_column, plain_assign, plain_rows, plain_statement}
@@ -91,7 +91,7 @@ pub record BackInnerItem (n : ℕ) (it : Item) (rest : List Lexeme) : Type 0 whe
   pub reads : Reads n item (item_before it rest) parse rest
   pub tree : inner_item_of parse ≡ it
 
-pub back_inner_item : {n : ℕ} {ts r : List Lexeme} {a : Parse} → Reads n item ts a r → (rest : List Lexeme) → sees is_open rest ≡ false → BackInnerItem n (inner_item_of a) rest
+pub back_inner_item : {n : ℕ} {ts r : List Lexeme} {a : Parse} → Reads n item_rule ts a r → (rest : List Lexeme) → sees is_open rest ≡ false → BackInnerItem n (inner_item_of a) rest
 back_inner_item (r.first e (r.both s (r.enclosed o h c))) rest after = record {
   parse = left (pair (leaf (name_token (codes "id"))) (group absent));
   reads = r.first refl (r.both (r.takes_before refl refl) (r.enclosed refl r.takes_nothing refl));

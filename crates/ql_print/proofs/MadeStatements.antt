@@ -11,11 +11,11 @@ use Rattle.ql_syntax.specs.declared.statement.Statement.TheVariants as s
 use Rattle.ql_syntax.specs.Ink.{text_of}
 use Rattle.ql_syntax.specs.Lexemes.{Lexeme, sees, is_open}
 use Rattle.ql_syntax.specs.ReadsBack.{plain_column, IsReadBack}
-use Rattle.ql_syntax.specs.Rules.{the, column}
+use Rattle.ql_syntax.specs.Rules.{item_rule, the, column}
 use Rattle.ql_syntax.specs.Scripts.{limit}
 use Rattle.ql_syntax.specs.StatementPrinting.{ink_of_column, ink_of_statement}
 use Rattle.ql_syntax.specs.Statements.{column_of, columns_of}
-use Rattle.ql_syntax.specs.StoredParts.{inner_limit, item, inner_item_of, WasRead, MadeReadBack}
+use Rattle.ql_syntax.specs.StoredParts.{inner_limit, inner_item_of, WasRead, MadeReadBack}
 use Rattle.ql_print.proofs.Alone.{spelled_here, known}
 use Rattle.ql_print.proofs.BackColumns.{after_column, back_column_def}
 use Rattle.ql_print.proofs.BackLists.{BackItem, BackMore, no_more, one_more, listed}
@@ -71,15 +71,15 @@ table_made quiet table x xs n h =
 column_made : (table : List ℕ) (x : ColumnDef) → IsName table → ColumnRead limit x → IsReadBack (s.AddColumn table x)
 column_made table x n h = is_back (s.AddColumn table x) (add_column_sound table x n (column_sound h)) (column_added table (column_back h [] (record { none = refl })))
 
-item_named : {n : ℕ} {x : Item} → WasRead item inner_item_of n x → IsNamedItem x
+item_named : {n : ℕ} {x : Item} → WasRead item_rule inner_item_of n x → IsNamedItem x
 item_named h = subst IsNamedItem (sym h.tree) (inner_item_there (known h.reads (spelled_here h)).fitting)
 
-item_back : {n : ℕ} {x : Item} → WasRead item inner_item_of n x → (rest : List Lexeme) → sees is_open rest ≡ false → BackInnerItem n x rest
+item_back : {n : ℕ} {x : Item} → WasRead item_rule inner_item_of n x → (rest : List Lexeme) → sees is_open rest ≡ false → BackInnerItem n x rest
 item_back {n = n} h rest after =
     let P : Item → Type 0 = λ x. BackInnerItem n x rest in
     subst P (sym h.tree) (back_inner_item h.reads rest after)
 
-index_made : (unique quiet : Bool) (index table : List ℕ) (x : Item) → IsName index → IsName table → WasRead item inner_item_of inner_limit x → IsReadBack (s.CreateIndex unique quiet index table x)
+index_made : (unique quiet : Bool) (index table : List ℕ) (x : Item) → IsName index → IsName table → WasRead item_rule inner_item_of inner_limit x → IsReadBack (s.CreateIndex unique quiet index table x)
 index_made unique quiet index table x i t h =
     is_back (s.CreateIndex unique quiet index table x) (create_index_sound unique quiet index table x i t (item_named h))
     (index_created unique quiet index table (item_enclosed (item_back h (mark_token m.Close ∷ []) refl)))

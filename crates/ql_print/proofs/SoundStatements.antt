@@ -16,13 +16,13 @@ use Rattle.ql_syntax.specs.declared.statement.Statement.{Statement}
 use Rattle.ql_syntax.specs.Ink.{text_of}
 use Rattle.ql_syntax.specs.Lexemes.{Lexeme, lexemes, is_number}
 use Rattle.ql_syntax.specs.Printing.{Inks, ink_of_expr}
-use Rattle.ql_syntax.specs.Rules.{Rule, ◌then◌, ◌or◌, the, token, before, nothing, many, maybe, further, list, word, mark, expr, select, column, statement, creation, removal, alteration, insertion, update, deletion}
+use Rattle.ql_syntax.specs.Rules.{item_rule, Rule, ◌then◌, ◌or◌, the, token, before, nothing, many, maybe, further, list, word, mark, expr, select, column, statement, creation, removal, alteration, insertion, update, deletion}
 use Rattle.ql_syntax.specs.Rules as rule
 use Rattle.ql_syntax.specs.Readings.{Parse, node}
 use Rattle.ql_syntax.specs.StatementPrinting.{ink_of_column, ink_of_row, ink_of_rows, ink_of_assign, ink_of_statement}
 use Rattle.ql_syntax.specs.Statements.{IsRead, is_not_null, rule_in, columns_of, names_of, row_of, rows_of, assigns_of, item_of, creation_of, removal_of, alteration_of, insertion_of, update_of, deletion_of, truncation_of, statement_of, with_statement, later_of, statements_of}
 use Rattle.ql_syntax.specs.Statements as tree
-use Rattle.ql_syntax.specs.StoredParts.{item, inner_item_of}
+use Rattle.ql_syntax.specs.StoredParts.{inner_item_of}
 use Rattle.ql_syntax.specs.Trees.{expr_of, exprs_of, option_of, is_present}
 use Rattle.ql_print.proofs.Fits.{Fits, Spelled, AreSpelled, fits, is_name, is_worth}
 use Rattle.ql_print.proofs.Fits as f

@@ -74,6 +74,10 @@ subselect = the select then maybe (mark m.Semicolon)
 abbrev pub join : Rule
 join = (word w.Left or word w.Right or word w.Full) then maybe (word w.Outer) then word w.Join then the set then word w.On then the expr
 
+-- what an index orders by: `id()`, or the name of a column
+abbrev pub item_rule : Rule
+item_rule = before is_id is_open then bracketed nothing or name
+
 -- The productions. Alternatives that begin with the same tokens and parts are written as one up to the place where they differ.
 abbrev pub rule_of : Production → Rule
 rule_of statement =
@@ -91,7 +95,7 @@ rule_of statement =
 rule_of creation = word w.Create then (
     word w.Table then maybe if_not_exists then name then bracketed (list (the column))
     or maybe (word w.Unique) then word w.Index then maybe if_not_exists then name then word w.On then name
-    then bracketed (before is_id is_open then bracketed nothing or name))
+    then bracketed item_rule)
 rule_of removal = word w.Drop then (
     word w.Table then maybe if_exists then name
     or word w.Index then maybe if_exists then name)

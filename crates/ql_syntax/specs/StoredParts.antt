@@ -9,11 +9,11 @@ use Rattle.ql_syntax.specs.declared.statement.Statement.{Statement}
 use Rattle.ql_syntax.specs.declared.statement.Statement.TheVariants as s
 use Rattle.ql_syntax.specs.declared.syntax.Expr.{Expr}
 use Rattle.ql_syntax.specs.Ink.{text_of}
-use Rattle.ql_syntax.specs.Lexemes.{Lexeme, lexemes, is_id, is_open}
+use Rattle.ql_syntax.specs.Lexemes.{Lexeme, lexemes}
 use Rattle.ql_syntax.specs.Printing.{ink_of_expr}
 use Rattle.ql_syntax.specs.Readings.{Parse, Reads, group}
 use Rattle.ql_syntax.specs.ReadsBack.{plain_expr, plain_column, IsReadBack}
-use Rattle.ql_syntax.specs.Rules.{Rule, before, nothing, ◌then◌, ◌or◌, bracketed, name, the, expr, column}
+use Rattle.ql_syntax.specs.Rules.{Rule, item_rule, the, expr, column}
 use Rattle.ql_syntax.specs.Scripts.{limit}
 use Rattle.ql_syntax.specs.StatementPrinting.{ink_of_column, ink_of_item}
 use Rattle.ql_syntax.specs.Statements.{IsRead, column_of, item_of}
@@ -23,11 +23,7 @@ use Rattle.ql_syntax.specs.Trees.{expr_of}
 abbrev pub inner_limit : ℕ
 inner_limit = 199
 
--- what CREATE INDEX has in its brackets: `id()` or the name of a column
-abbrev pub item : Rule
-item = before is_id is_open then bracketed nothing or name
-
--- what an index orders by, by a reading of what stands in those brackets
+-- what an index orders by, by a reading of what stands in the brackets of CREATE INDEX
 abbrev pub inner_item_of : Parse → Item
 inner_item_of a = item_of (group a)
 
@@ -62,7 +58,7 @@ IsColumnBack room x = IsReadFrom (the column) column_of room (text_of (ink_of_co
 
 -- what an index orders by prints what is read as that
 abbrev pub IsItemBack : ℕ → Item → Type 0
-IsItemBack room x = IsReadFrom item inner_item_of room (text_of (ink_of_item x)) x
+IsItemBack room x = IsReadFrom item_rule inner_item_of room (text_of (ink_of_item x)) x
 
 -- a column was read, and is read back by itself, and so are its rule and its default
 pub record IsColumnKept (room : ℕ) (x : ColumnDef) : Type 0 where
@@ -73,7 +69,7 @@ pub record IsColumnKept (room : ℕ) (x : ColumnDef) : Type 0 where
 
 -- what an index orders by was read, and is read back by itself
 pub record IsItemKept (room : ℕ) (x : Item) : Type 0 where
-  pub was_read : WasRead item inner_item_of room x
+  pub was_read : WasRead item_rule inner_item_of room x
   pub back : IsItemBack room x
 
 -- the parts of a statement that a database stores by themselves are read back by themselves, and their names are names
@@ -93,7 +89,7 @@ ColumnsReadBack = (room : ℕ) (x : ColumnDef) → WasRead (the column) column_o
 
 -- what an index orders by, where it was read, is read back by itself
 abbrev pub ItemsReadBack : Type 0
-ItemsReadBack = (room : ℕ) (x : Item) → WasRead item inner_item_of room x → IsItemKept room x
+ItemsReadBack = (room : ℕ) (x : Item) → WasRead item_rule inner_item_of room x → IsItemKept room x
 
 -- the parts of every statement of a script that was read are read back by themselves
 abbrev pub PartsReadBack : Type 0
@@ -107,4 +103,4 @@ pub record MadeReadBack : Type 0 where
   pub columns : (table : List ℕ) (x : ColumnDef) →
       IsName table → WasRead (the column) column_of limit x → IsReadBack (s.AddColumn table x)
   pub indexes : (unique quiet : Bool) (index table : List ℕ) (x : Item) →
-      IsName index → IsName table → WasRead item inner_item_of inner_limit x → IsReadBack (s.CreateIndex unique quiet index table x)
+      IsName index → IsName table → WasRead item_rule inner_item_of inner_limit x → IsReadBack (s.CreateIndex unique quiet index table x)
