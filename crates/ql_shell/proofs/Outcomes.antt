@@ -1,5 +1,5 @@
 -- What a script comes to, from the answers of the lexer and the parser.
-use Rattle.std.proofs.Common.{◌≡◌, ◌≢◌, ℕ, ◌≤◌, List, length, Result, Ok, Err, ◌⊎◌, inl, inr, refl, ap, arith}
+use Rattle.std.proofs.Common.{◌≡◌, ◌≢◌, ℕ, ◌≤◌, List, length, Result, Ok, Err, ◌⊎◌, inl, inr, refl, sym, ap, ◌∙◌, arith}
 use Rattle.ql_lex.specs.declared.token.LexFault.{LexFault}
 use Rattle.ql_lex.specs.declared.token.LexFault.TheVariants as lex
 use Rattle.ql_lex.specs.declared.token.Token.{Token}
@@ -115,3 +115,12 @@ parsing_only source ts r _ within only reads_on stops over (read {ts = other} {s
     let same : other ≡ ts = same_tokens ts other (only (Ok other) reads) in
     let here : IsRead (lexemes source ts) ss = rw (← same) is in
     one_parse source ts r (Ok ss) (reads_on ss here)
+
+abbrev refused : Status → Result (List Statement) Status
+refused s = Err s
+
+-- the same where the parser's fault was given its place
+pub parsing_stopped : (source : List ℕ) (ts : List Token) (f : ParseFault) (g : ScriptFault) (answer : Result (List Statement) Status) → status_of_parsing source ts f ≡ Script g
+    → IsAnswer (parsed source ts (Err f)) answer → IsAnswer (Err (Script g)) answer
+parsing_stopped source ts f g answer e (inl h) = inl (ap refused (sym e) ∙ h)
+parsing_stopped source ts f g answer e (inr h) = inr (ap refused (sym e) ∙ h)

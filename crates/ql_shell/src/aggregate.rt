@@ -27,7 +27,8 @@ fn calls_aggregate(expr: &Expr) -> bool
             ..
         } => is_aggregate(*function) || any_calls_aggregate(parts),
         Expr::Convert { part, .. } => calls_aggregate(part.get()),
-        Expr::IsIn { part, list, .. } => calls_aggregate(part.get()) || any_calls_aggregate(list.get()),
+        Expr::IsIn { part, list, .. } => calls_aggregate(part.get())
+            || any_calls_aggregate(list.get()),
         Expr::IsInSelect { part, .. } => calls_aggregate(part.get()),
         Expr::IsBetween {
             part,

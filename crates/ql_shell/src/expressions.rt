@@ -11,8 +11,8 @@ use crate::fault::{StepFault, refused};
 use ql_check::{CheckFault, Plan, check};
 use ql_edge::{Bytes, DeviceFault, NoMemory};
 use ql_eval::{EvalFault, Typed, Typeds, eval};
-use ql_syntax::Statement;
 use ql_rel::{Indexes, Schema, TableSchemas};
+use ql_syntax::Statement;
 use ql_value::{DIVIDE, LATER, NEGATIVE_COUNT, RANGE, Value, Values, print_value};
 use std::alloc::Global;
 

@@ -5,7 +5,9 @@ ghost use Rattle.ql_rel.specs.Forms as spec;
 
 use crate::aggregate::any_field_calls_aggregate;
 use ql_edge::{Boxed, Name, Names, NoMemory, Numbers};
-use ql_syntax::{ColumnDef, ColumnDefs, Expr, Exprs, FromSet, FromSets, RowSource, Select, SetSource, Statement};
+use ql_syntax::{
+    ColumnDef, ColumnDefs, Expr, Exprs, FromSet, FromSets, RowSource, Select, SetSource, Statement,
+};
 use ql_value::Kind;
 use std::alloc::Global;
 

@@ -17,8 +17,8 @@ use crate::forms::{inserted_numbers, is_internal, is_of_expressions, shown_table
 use crate::rows::show_rows;
 use crate::tables::Tables;
 use ql_edge::{DeviceFault, Name, Names, Shows, show_all};
-use ql_syntax::{ColumnDefs, RowSource, Select, Statement};
 use ql_rel::TABLE_LIMIT;
+use ql_syntax::{ColumnDefs, RowSource, Select, Statement};
 use ql_value::{EXISTS, LATER, NO_TABLE, Refusal};
 use std::alloc::Global;
 
