@@ -145,7 +145,7 @@ impl<F: BaseFiler> RollbackFiler<F> {
 }
 
 /// So many zeros.
-fn zeros(alloc: Global, count: usize) -> Result<Vec<u8>, NoMemory>
+pub(crate) fn zeros(alloc: Global, count: usize) -> Result<Vec<u8>, NoMemory>
     ensures { IfOk result (λ zeros. length zeros.items ≡ count) }
 {
     let mut zeros = Vec::new(alloc);
