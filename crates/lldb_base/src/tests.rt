@@ -62,7 +62,8 @@ fn longer(alloc: Global, limit: u64) -> Result<Vec<u8>, Trouble>
 /// A piece, and one that begins where it ends.
 fn two_pieces(alloc: Global) -> Result<Batch, NoMemory>
     ensures size { IfOk result (λ b. b.size ≡ 3) }
-    ensures pieces { IfOk result (λ b. b.pieces ≡ record { place = 0; bytes = 88 ∷ 89 ∷ [] } ∷ record { place = 2; bytes = 90 ∷ [] } ∷ []) }
+    ensures pieces { IfOk result (λ b. b.pieces ≡ record { place = 0; bytes = 88 ∷ 89 ∷ [] } ∷
+        record { place = 2; bytes = 90 ∷ [] } ∷ []) }
 {
     let mut batch = Batch::new(alloc, 3);
     batch.push(0, b"XY")?;

@@ -160,7 +160,11 @@ impl Shows for Failing {
 
     ghost same_reflexive = { λ x. ((refl, refl, refl), refl) };
 
-    ghost same_transitive = { λ x y z p q. ((q.0.0 ∙ p.0.0, q.0.1 ∙ p.0.1, q.0.2 ∙ p.0.2), q.1 ∙ p.1) };
+    ghost same_transitive = { λ x y z p q. (
+      (q.0.0 ∙ p.0.0, q.0.1 ∙ p.0.1, q.0.2 ∙ p.0.2),
+      q.1 ∙
+          p.1,
+    ) };
 
     fn show(&mut self, piece: &[u8]) -> Result<u64, DeviceFault> {
         self.below.show(piece)
@@ -217,7 +221,14 @@ impl BaseFiler for Failing {
 
     ghost told_size = { λ _ _. refl };
 
-    ghost same_filer = { λ x y same. record { held = ap (λ v. Some v.items) same.0.0; size = ap (λ v. length v.items) same.0.0; limit = same.0.1; sound = same.1; moved = same.0.2 } };
+    ghost same_filer = { λ x y same. record {
+      held = ap (λ v. Some v.items) same.0.0;
+      size = ap
+          (λ v. length v.items) same.0.0;
+      limit = same.0.1;
+      sound = same.1;
+      moved = same.0.2;
+    } };
 }
 
 /// Two levels with a change each, both ended.
