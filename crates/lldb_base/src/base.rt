@@ -42,7 +42,8 @@ pub trait BaseFiler: Shows {
     fn read_at(&mut self, at: u64, out: &mut [u8]) -> Result<(), Trouble>
         requires sound { IsTrue (is_sound self.old) }
         requires within { at + length out.old ≤ size_of self.old }
-        ensures read { OnOk result (IfSome (content self.old) (λ c. out.new ≡ take (length out.old) (drop at c))) }
+        ensures read { OnOk result (IfSome (content self.old)
+            (λ c. out.new ≡ take (length out.old) (drop at c))) }
         ensures content { content self.new ≡ content self.old }
         ensures size { size_of self.new ≡ size_of self.old }
         ensures limit { limit_of self.new ≡ limit_of self.old }
@@ -60,15 +61,20 @@ pub trait BaseFiler: Shows {
     fn commit(&mut self, batch: &Batch, shift: u64) -> Result<(), Trouble>
         requires sound { IsTrue (is_sound self.old) }
         requires fits { CanTake floor shift (size_of self.old) batch.now }
-        ensures content { OnOk result (content self.new ≡ option_map (applied shift batch.now) (content self.old)) }
-        ensures kept { OnErr result (IsTrue (is_sound self.new) → content self.new ≡ content self.old) }
+        ensures content { OnOk result (content self.new ≡ option_map (applied shift batch.now)
+            (content self.old)) }
+        ensures kept { OnErr result (IsTrue (is_sound self.new) → content self.new
+            ≡ content self.old) }
         ensures size { OnOk result (size_of self.new ≡ shift + batch.now.size) }
         ensures size_kept { OnErr result (size_of self.new ≡ size_of self.old) }
         ensures limit { limit_of self.new ≡ limit_of self.old }
         ensures sound { SoundAfter result (is_sound self.new) }
-        ensures moved { Counts result (bytes_of batch.now.pieces) (moved_of self.old) (moved_of self.new) }
-        ensures fits { OnOk result (shift + batch.now.size ≤ max (size_of self.old) (limit_of self.old)) }
-        ensures refuses { Refuses (IsOver (size_of self.old) (limit_of self.old) (shift + batch.now.size)) ⊥ result }
+        ensures moved { Counts result (bytes_of batch.now.pieces) (moved_of self.old)
+            (moved_of self.new) }
+        ensures fits { OnOk result (shift + batch.now.size ≤ max (size_of self.old)
+            (limit_of self.old)) }
+        ensures refuses { Refuses (IsOver (size_of self.old) (limit_of self.old)
+            (shift + batch.now.size)) ⊥ result }
         ensures told { Self.told self.new ≡ Self.told self.old }
         ensures left { Self.left self.new ≡ Self.left self.old }
         ensures fixed { Self.fixed self.new ≡ Self.fixed self.old }
@@ -76,7 +82,10 @@ pub trait BaseFiler: Shows {
 
     ghost sizes: { (x : Self) → (size_of x ≤ 2 ^ 60 + 16) × (limit_of x ≤ 2 ^ 60 + 16) };
 
-    ghost told_size: { (x : Self) → IsTrue (is_sound x) → IfSome (content x) (λ c. length c ≡ size_of x) };
+    ghost told_size: { (x : Self) → IsTrue (is_sound x) → IfSome (content x)
+        (λ c. length c ≡ size_of x) };
 
-    ghost same_filer: { (x y : Self) → Self.same x y → IsSameBase (content x) (content y) (size_of x) (size_of y) (limit_of x) (limit_of y) (is_sound x) (is_sound y) (moved_of x) (moved_of y) };
+    ghost same_filer: { (x y : Self) → Self.same x y → IsSameBase (content x) (content y)
+        (size_of x) (size_of y) (limit_of x) (limit_of y) (is_sound x) (is_sound y) (moved_of x)
+        (moved_of y) };
 }

@@ -52,7 +52,8 @@ impl Batch {
         requires behind { end_of 0 self.old.pieces ≤ place }
         requires within { place + length bytes.now ≤ self.old.size }
         requires room { cost self.old.pieces + length bytes.now + 12 ≤ 2 ^ 61 }
-        ensures ok { OnOk result (self.new.pieces ≡ self.old.pieces ++ record { place = place; bytes = bytes.now } ∷ []) }
+        ensures ok { OnOk result (self.new.pieces ≡ self.old.pieces ++ record
+            { place = place; bytes = bytes.now } ∷ []) }
         ensures err { OnErr result (self.new.pieces ≡ self.old.pieces) }
         ensures size { self.new.size ≡ self.old.size }
     {

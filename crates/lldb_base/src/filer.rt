@@ -45,7 +45,8 @@ pub trait Filer: Shows {
     fn read_at(&mut self, at: u64, out: &mut [u8]) -> Result<(), Trouble>
         requires sound { IsTrue (is_sound self.old) }
         requires within { at + length out.old ≤ size_of self.old }
-        ensures read { OnOk result (IfSome (content self.old) (λ c. out.new ≡ take (length out.old) (drop at c))) }
+        ensures read { OnOk result (IfSome (content self.old)
+            (λ c. out.new ≡ take (length out.old) (drop at c))) }
         ensures content { content self.new ≡ content self.old }
         ensures saved { saved self.new ≡ saved self.old }
         ensures saved_sizes { saved_sizes self.new ≡ saved_sizes self.old }
@@ -64,16 +65,20 @@ pub trait Filer: Shows {
         requires depth { 1 ≤ length (saved self.old) }
         requires within { at ≤ size_of self.old }
         requires most { length piece.now ≤ 65792 }
-        ensures written { OnOk result (content self.new ≡ option_map (put at piece.now) (content self.old)) }
+        ensures written { OnOk result (content self.new ≡ option_map (put at piece.now)
+            (content self.old)) }
         ensures kept { OnErr result (content self.new ≡ content self.old) }
         ensures saved { saved self.new ≡ saved self.old }
         ensures saved_sizes { saved_sizes self.new ≡ saved_sizes self.old }
-        ensures size { OnOk result (size_of self.new ≡ max (size_of self.old) (at + length piece.now)) }
+        ensures size { OnOk result (size_of self.new ≡ max (size_of self.old)
+            (at + length piece.now)) }
         ensures size_kept { OnErr result (size_of self.new ≡ size_of self.old) }
         ensures limit { limit_of self.new ≡ limit_of self.old }
         ensures sound { is_sound self.new ≡ is_sound self.old }
-        ensures fits { OnOk result (at + length piece.now ≤ max (size_of self.old) (limit_of self.old)) }
-        ensures refuses { Refuses (IsOver (size_of self.old) (limit_of self.old) (at + length piece.now)) ⊥ result }
+        ensures fits { OnOk result (at + length piece.now ≤ max (size_of self.old)
+            (limit_of self.old)) }
+        ensures refuses { Refuses (IsOver (size_of self.old) (limit_of self.old)
+            (at + length piece.now)) ⊥ result }
         ensures told { Self.told self.new ≡ Self.told self.old }
         ensures left { Self.left self.new ≡ Self.left self.old }
         ensures fixed { Self.fixed self.new ≡ Self.fixed self.old }
@@ -104,7 +109,8 @@ pub trait Filer: Shows {
         requires depth { length (saved self.old) < 4294967295 }
         ensures saved { OnOk result (saved self.new ≡ content self.old ∷ saved self.old) }
         ensures saved_kept { OnErr result (saved self.new ≡ saved self.old) }
-        ensures saved_sizes { OnOk result (saved_sizes self.new ≡ size_of self.old ∷ saved_sizes self.old) }
+        ensures saved_sizes { OnOk result (saved_sizes self.new
+            ≡ size_of self.old ∷ saved_sizes self.old) }
         ensures saved_sizes_kept { OnErr result (saved_sizes self.new ≡ saved_sizes self.old) }
         ensures content { content self.new ≡ content self.old }
         ensures size { size_of self.new ≡ size_of self.old }
@@ -122,9 +128,11 @@ pub trait Filer: Shows {
         requires sound { IsTrue (is_sound self.old) }
         requires depth { 1 ≤ length (saved self.old) }
         ensures content { OnOk result (content self.new ≡ content self.old) }
-        ensures kept { OnErr result (IsTrue (is_sound self.new) → content self.new ≡ content self.old) }
+        ensures kept { OnErr result (IsTrue (is_sound self.new) → content self.new
+            ≡ content self.old) }
         ensures saved { OnOk result (saved self.new ≡ drop 1 (saved self.old)) }
-        ensures saved_kept { OnErr result (IsTrue (is_sound self.new) → saved self.new ≡ saved self.old) }
+        ensures saved_kept { OnErr result (IsTrue (is_sound self.new) → saved self.new
+            ≡ saved self.old) }
         ensures saved_sizes { OnOk result (saved_sizes self.new ≡ drop 1 (saved_sizes self.old)) }
         ensures saved_sizes_kept { OnErr result (saved_sizes self.new ≡ saved_sizes self.old) }
         ensures size { size_of self.new ≡ size_of self.old }
@@ -150,9 +158,13 @@ pub trait Filer: Shows {
         ensures fixed { Self.fixed self.new ≡ Self.fixed self.old }
         ensures faults { Self.faults self.new ≡ Self.faults self.old };
 
-    ghost sizes: { (x : Self) → (size_of x ≤ 2 ^ 60 + 16) × (limit_of x ≤ 2 ^ 60 + 16) × (length (saved_sizes x) ≡ length (saved x)) };
+    ghost sizes: { (x : Self) → (size_of x ≤ 2 ^ 60 + 16) × (limit_of x ≤ 2 ^ 60 + 16) ×
+        (length (saved_sizes x) ≡ length (saved x)) };
 
-    ghost told_size: { (x : Self) → IsTrue (is_sound x) → IfSome (content x) (λ c. length c ≡ size_of x) };
+    ghost told_size: { (x : Self) → IsTrue (is_sound x) → IfSome (content x)
+        (λ c. length c ≡ size_of x) };
 
-    ghost same_filer: { (x y : Self) → Self.same x y → IsSameHeld (content x) (content y) (saved x) (saved y) (size_of x) (size_of y) (saved_sizes x) (saved_sizes y) (limit_of x) (limit_of y) (is_sound x) (is_sound y) };
+    ghost same_filer: { (x y : Self) → Self.same x y → IsSameHeld (content x) (content y) (saved x)
+        (saved y) (size_of x) (size_of y) (saved_sizes x) (saved_sizes y) (limit_of x) (limit_of y)
+        (is_sound x) (is_sound y) };
 }

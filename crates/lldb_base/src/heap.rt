@@ -58,9 +58,11 @@ pub trait Heap: Shows {
         requires depth { 1 ≤ length (saved self.old) }
         requires most { length content.now ≤ 65787 }
         ensures range { IfOk result (λ handle. (8 ≤ handle) × (handle < 2 ^ 64)) }
-        ensures fresh { IfOk result (λ handle. IfSome (map_of self.old) (λ map. content_of handle map ≡ None)) }
+        ensures fresh { IfOk result (λ handle. IfSome (map_of self.old)
+            (λ map. content_of handle map ≡ None)) }
         ensures first { IfOk result (λ handle. map_of self.old ≡ Some [] → handle ≡ 8) }
-        ensures created { IfOk result (λ handle. IfSome (map_of self.old) (λ map. map_of self.new ≡ Some (with_content handle content.now map))) }
+        ensures created { IfOk result (λ handle. IfSome (map_of self.old)
+            (λ map. map_of self.new ≡ Some (with_content handle content.now map))) }
         ensures ready { OnOk result (is_ready self.new ≡ true) }
         ensures refused { OnErr result (is_ready self.new ≡ false) }
         ensures saved { saved self.new ≡ saved self.old }
@@ -68,7 +70,9 @@ pub trait Heap: Shows {
         ensures limit { limit_of self.new ≡ limit_of self.old }
         ensures sound { is_sound self.new ≡ is_sound self.old }
         ensures reads { reads_of self.new ≡ reads_of self.old }
-        ensures refuses { Refuses (IsFull (atoms_for (length content.now)) (most_free self.old) (size_of self.old) (size_of self.new) (limit_of self.old)) (map_of self.old ≡ None) result }
+        ensures refuses { Refuses (IsFull (atoms_for (length content.now)) (most_free self.old)
+            (size_of self.old) (size_of self.new) (limit_of self.old))
+            (map_of self.old ≡ None) result }
         ensures told { Self.told self.new ≡ Self.told self.old }
         ensures left { Self.left self.new ≡ Self.left self.old }
         ensures fixed { Self.fixed self.new ≡ Self.fixed self.old }
@@ -77,7 +81,8 @@ pub trait Heap: Shows {
     /// Makes `out` the content of a handle.
     fn read(&mut self, handle: u64, out: &mut Bytes) -> Result<(), Trouble>
         requires { IsTrue (is_ready self.old) }
-        ensures read { OnOk result (IfSome (map_of self.old) (λ map. IfSome (content_of handle map) (λ content. out.new ≡ content))) }
+        ensures read { OnOk result (IfSome (map_of self.old)
+            (λ map. IfSome (content_of handle map) (λ content. out.new ≡ content))) }
         ensures map { map_of self.new ≡ map_of self.old }
         ensures ready { is_ready self.new ≡ is_ready self.old }
         ensures saved { saved self.new ≡ saved self.old }
@@ -99,7 +104,9 @@ pub trait Heap: Shows {
         requires ready { IsTrue (is_ready self.old) }
         requires depth { 1 ≤ length (saved self.old) }
         requires most { length content.now ≤ 65787 }
-        ensures replaced { OnOk result (IfSome (map_of self.old) (λ map. IfSome (content_of handle map) (λ _. map_of self.new ≡ Some (with_content handle content.now map)))) }
+        ensures replaced { OnOk result (IfSome (map_of self.old)
+            (λ map. IfSome (content_of handle map) (λ _. map_of self.new ≡ Some
+            (with_content handle content.now map)))) }
         ensures ready { OnOk result (is_ready self.new ≡ true) }
         ensures refused { OnErr result (is_ready self.new ≡ false) }
         ensures saved { saved self.new ≡ saved self.old }
@@ -107,7 +114,10 @@ pub trait Heap: Shows {
         ensures limit { limit_of self.new ≡ limit_of self.old }
         ensures sound { is_sound self.new ≡ is_sound self.old }
         ensures reads { reads_of self.new ≡ reads_of self.old }
-        ensures refuses { Refuses (λ need most. IsGrown handle (atoms_for (length content.now)) (map_of self.old) × IsFull (atoms_for (length content.now)) (most_free self.old) (size_of self.old) (size_of self.new) (limit_of self.old) need most) (MayBeDead handle (map_of self.old)) result }
+        ensures refuses { Refuses (λ need most. IsGrown handle (atoms_for (length content.now))
+            (map_of self.old) × IsFull (atoms_for (length content.now)) (most_free self.old)
+            (size_of self.old) (size_of self.new) (limit_of self.old) need most)
+            (MayBeDead handle (map_of self.old)) result }
         ensures told { Self.told self.new ≡ Self.told self.old }
         ensures left { Self.left self.new ≡ Self.left self.old }
         ensures fixed { Self.fixed self.new ≡ Self.fixed self.old }
@@ -117,7 +127,9 @@ pub trait Heap: Shows {
     fn remove(&mut self, handle: u64) -> Result<(), Trouble>
         requires ready { IsTrue (is_ready self.old) }
         requires depth { 1 ≤ length (saved self.old) }
-        ensures removed { OnOk result (IfSome (map_of self.old) (λ map. IfSome (content_of handle map) (λ _. map_of self.new ≡ Some (without handle map)))) }
+        ensures removed { OnOk result (IfSome (map_of self.old)
+            (λ map. IfSome (content_of handle map) (λ _. map_of self.new ≡ Some
+            (without handle map)))) }
         ensures ready { OnOk result (is_ready self.new ≡ true) }
         ensures refused { OnErr result (is_ready self.new ≡ false) }
         ensures saved { saved self.new ≡ saved self.old }
@@ -137,7 +149,8 @@ pub trait Heap: Shows {
         requires depth { length (saved self.old) < 4294967295 }
         ensures saved { OnOk result (saved self.new ≡ map_of self.old ∷ saved self.old) }
         ensures saved_kept { OnErr result (saved self.new ≡ saved self.old) }
-        ensures saved_sizes { OnOk result (saved_sizes self.new ≡ size_of self.old ∷ saved_sizes self.old) }
+        ensures saved_sizes { OnOk result (saved_sizes self.new
+            ≡ size_of self.old ∷ saved_sizes self.old) }
         ensures saved_sizes_kept { OnErr result (saved_sizes self.new ≡ saved_sizes self.old) }
         ensures map { map_of self.new ≡ map_of self.old }
         ensures ready { is_ready self.new ≡ is_ready self.old }
@@ -160,7 +173,8 @@ pub trait Heap: Shows {
         ensures map { OnOk result (map_of self.new ≡ map_of self.old) }
         ensures kept { OnErr result (IsTrue (is_sound self.new) → map_of self.new ≡ map_of self.old) }
         ensures saved { OnOk result (saved self.new ≡ drop 1 (saved self.old)) }
-        ensures saved_kept { OnErr result (IsTrue (is_sound self.new) → saved self.new ≡ saved self.old) }
+        ensures saved_kept { OnErr result (IsTrue (is_sound self.new) → saved self.new
+            ≡ saved self.old) }
         ensures saved_sizes { OnOk result (saved_sizes self.new ≡ drop 1 (saved_sizes self.old)) }
         ensures saved_sizes_kept { OnErr result (saved_sizes self.new ≡ saved_sizes self.old) }
         ensures ready { is_ready self.new ≡ is_sound self.new }
@@ -192,7 +206,11 @@ pub trait Heap: Shows {
 
     ghost contents: { (x : Self) → IsTrue (is_ready x) → IfSome (map_of x) AreContents };
 
-    ghost sizes: { (x : Self) → (length (saved_sizes x) ≡ length (saved x)) × (IsTrue (is_ready x) → IsTrue (is_sound x)) };
+    ghost sizes: { (x : Self) → (length (saved_sizes x) ≡ length (saved x)) ×
+        (IsTrue (is_ready x) → IsTrue (is_sound x)) };
 
-    ghost same_heap: { (x y : Self) → Self.same x y → IsSameHeap (map_of x) (map_of y) (saved x) (saved y) (size_of x) (size_of y) (saved_sizes x) (saved_sizes y) (limit_of x) (limit_of y) (most_free x) (most_free y) (is_ready x) (is_ready y) (is_sound x) (is_sound y) (reads_of x) (reads_of y) };
+    ghost same_heap: { (x y : Self) → Self.same x y → IsSameHeap (map_of x) (map_of y) (saved x)
+        (saved y) (size_of x) (size_of y) (saved_sizes x) (saved_sizes y) (limit_of x) (limit_of y)
+        (most_free x) (most_free y) (is_ready x) (is_ready y) (is_sound x) (is_sound y) (reads_of x)
+        (reads_of y) };
 }

@@ -22,7 +22,8 @@ impl<F: BaseFiler> InnerFiler<F> {
         requires size { offset ≤ F.size_of below }
         requires limit { offset ≤ F.limit_of below }
         requires floor { F.floor ≤ offset }
-        ensures content { ⟦<InnerFiler<F> as BaseFiler>⟧.content result ≡ option_map (drop offset) (F.content below) }
+        ensures content { ⟦<InnerFiler<F> as BaseFiler>⟧.content result ≡ option_map (drop offset)
+            (F.content below) }
         ensures size { ⟦<InnerFiler<F> as BaseFiler>⟧.size_of result ≡ F.size_of below - offset }
         ensures limit { ⟦<InnerFiler<F> as BaseFiler>⟧.limit_of result ≡ F.limit_of below - offset }
         ensures sound { ⟦<InnerFiler<F> as BaseFiler>⟧.is_sound result ≡ F.is_sound below }
@@ -37,10 +38,14 @@ impl<F: BaseFiler> InnerFiler<F> {
 
     /// The filer below.
     pub fn into_below(self) -> F
-        ensures content { (o : ℕ) (rest : List ℕ) → ⟦<InnerFiler<F> as Shows>⟧.fixed self ≡ o ∷ rest → ⟦<InnerFiler<F> as BaseFiler>⟧.content self ≡ option_map (drop o) (F.content result) }
-        ensures size { (o : ℕ) (rest : List ℕ) → ⟦<InnerFiler<F> as Shows>⟧.fixed self ≡ o ∷ rest → F.size_of result ≡ o + ⟦<InnerFiler<F> as BaseFiler>⟧.size_of self }
-        ensures limit { (o : ℕ) (rest : List ℕ) → ⟦<InnerFiler<F> as Shows>⟧.fixed self ≡ o ∷ rest → F.limit_of result ≡ o + ⟦<InnerFiler<F> as BaseFiler>⟧.limit_of self }
-        ensures fixed { (o : ℕ) (rest : List ℕ) → ⟦<InnerFiler<F> as Shows>⟧.fixed self ≡ o ∷ rest → F.fixed result ≡ rest }
+        ensures content { (o : ℕ) (rest : List ℕ) → ⟦<InnerFiler<F> as Shows>⟧.fixed self ≡ o ∷ rest
+            → ⟦<InnerFiler<F> as BaseFiler>⟧.content self ≡ option_map (drop o) (F.content result) }
+        ensures size { (o : ℕ) (rest : List ℕ) → ⟦<InnerFiler<F> as Shows>⟧.fixed self ≡ o ∷ rest
+            → F.size_of result ≡ o + ⟦<InnerFiler<F> as BaseFiler>⟧.size_of self }
+        ensures limit { (o : ℕ) (rest : List ℕ) → ⟦<InnerFiler<F> as Shows>⟧.fixed self ≡ o ∷ rest
+            → F.limit_of result ≡ o + ⟦<InnerFiler<F> as BaseFiler>⟧.limit_of self }
+        ensures fixed { (o : ℕ) (rest : List ℕ) → ⟦<InnerFiler<F> as Shows>⟧.fixed self ≡ o ∷ rest
+            → F.fixed result ≡ rest }
         ensures sound { F.is_sound result ≡ ⟦<InnerFiler<F> as BaseFiler>⟧.is_sound self }
         ensures moved { F.moved_of result ≡ ⟦<InnerFiler<F> as BaseFiler>⟧.moved_of self }
         ensures told { F.told result ≡ ⟦<InnerFiler<F> as Shows>⟧.told self }
@@ -78,7 +83,11 @@ impl<F: BaseFiler> Shows for InnerFiler<F> {
 
     ghost same_reflexive = { λ x. (F.same_reflexive x.below, refl) };
 
-    ghost same_transitive = { λ x y z p q. (F.same_transitive x.below y.below z.below p.0 q.0, q.1 ∙ p.1) };
+    ghost same_transitive = { λ x y z p q. (
+      F.same_transitive x.below y.below z.below p.0 q.0,
+      q.1 ∙
+          p.1,
+    ) };
 
     fn show(&mut self, piece: &[u8]) -> Result<u64, DeviceFault> {
         self.below.show(piece)
@@ -133,5 +142,6 @@ impl<F: BaseFiler> BaseFiler for InnerFiler<F> {
 
     ghost told_size = { λ f sound. told_behind f.offset _ _ (F.told_size f.below sound) };
 
-    ghost same_filer = { λ x y same. same_behind x.offset y.offset same.1 _ _ _ _ _ _ _ _ _ _ (F.same_filer x.below y.below same.0) };
+    ghost same_filer = { λ x y same. same_behind x.offset y.offset same.1 _ _ _ _ _ _ _ _ _ _
+        (F.same_filer x.below y.below same.0) };
 }

@@ -20,3 +20,6 @@ pub use inner::InnerFiler;
 pub use mem_heap::MemHeap;
 pub use memory::{MemFiler, put_piece};
 pub use trouble::{Refused, Trouble};
+
+#[cfg(test)]
+mod tests;

@@ -49,7 +49,8 @@ impl Maps {
 
     #[tactic(auto, using(crate::proofs::Stacked::pushed))]
     pub fn pop(&mut self) -> Option<BTreeMap<u64, Bytes>>
-        ensures { MatchOption result ((self.old ≡ []) × (self.new ≡ [])) (λ top. self.old ≡ top.entries ∷ self.new) }
+        ensures { MatchOption result ((self.old ≡ []) × (self.new ≡ []))
+            (λ top. self.old ≡ top.entries ∷ self.new) }
     {
         let map = self.maps.pop()?;
         Some(map)

@@ -1,9 +1,11 @@
 //! A heap in memory.
-ghost use Rattle.std.specs.Prelude.{◌≡◌, ◌≤◌, ◌^◌, ◌<◌, [], length, map, replicate, None, Some, true, false, IfOk, OnErr, All, refl};
+ghost use Rattle.std.specs.Prelude.{◌≡◌, ◌≤◌, ◌^◌, ◌<◌, ◌+◌, ◌-◌, min, IsTrue, IsSome, OnOk, IfSome, [], length, map, replicate, None, Some, true, false, IfOk, OnErr, All, refl};
 ghost use Rattle.std.proofs.Common.{◌∙◌, ap, sym};
 ghost use Rattle.std.proofs.Props.{props};
 ghost use Rattle.std.proofs.lemmas.List.{length-replicate, length-map};
-ghost use Rattle.lldb_base.specs.Contents.{AreContents, content_of};
+ghost use Rattle.lldb_base.specs.Contents.{AreContents, content_of, with_content, without, atoms_for};
+ghost use Rattle.lldb_base.specs.Heaps.{MayBeDead, IsGrown, IsFull};
+ghost use Rattle.lldb_base.specs.Trouble.{IsCausedTrouble, Refuses};
 
 use crate::maps::{Maps, copy_map, put_entry};
 use crate::texts::Texts;
@@ -72,7 +74,8 @@ impl Shows for MemHeap {
 
     ghost left = { λ h. ⟦<Texts as Shows>⟧.left h.texts };
 
-    ghost same = { λ x y. (y.live ≡ x.live) × (y.saved ≡ x.saved) × (y.ready ≡ x.ready) × (y.reads ≡ x.reads) };
+    ghost same = { λ x y. (y.live ≡ x.live) × (y.saved ≡ x.saved) × (y.ready ≡ x.ready) ×
+        (y.reads ≡ x.reads) };
 
     ghost fixed = { λ _. [] };
 
@@ -133,16 +136,81 @@ impl Heap for MemHeap {
         Ok(handle)
     }
 
-    fn read(&mut self, handle: u64, out: &mut Bytes) -> Result<(), Trouble> {
+    fn read(&mut self, handle: u64, out: &mut Bytes) -> Result<(), Trouble>
+        requires { IsTrue (⟦<MemHeap as Heap>⟧.is_ready self.old) }
+        ensures read { OnOk result (IfSome (⟦<MemHeap as Heap>⟧.map_of self.old)
+            (λ map. IfSome (content_of handle map) (λ content. out.new ≡ content))) }
+        ensures map { ⟦<MemHeap as Heap>⟧.map_of self.new ≡ ⟦<MemHeap as Heap>⟧.map_of self.old }
+        ensures ready { ⟦<MemHeap as Heap>⟧.is_ready self.new
+            ≡ ⟦<MemHeap as Heap>⟧.is_ready self.old }
+        ensures saved { ⟦<MemHeap as Heap>⟧.saved self.new ≡ ⟦<MemHeap as Heap>⟧.saved self.old }
+        ensures saved_sizes { ⟦<MemHeap as Heap>⟧.saved_sizes self.new
+            ≡ ⟦<MemHeap as Heap>⟧.saved_sizes self.old }
+        ensures size { ⟦<MemHeap as Heap>⟧.size_of self.new ≡ ⟦<MemHeap as Heap>⟧.size_of self.old }
+        ensures free { ⟦<MemHeap as Heap>⟧.most_free self.new
+            ≡ ⟦<MemHeap as Heap>⟧.most_free self.old }
+        ensures limit { ⟦<MemHeap as Heap>⟧.limit_of self.new
+            ≡ ⟦<MemHeap as Heap>⟧.limit_of self.old }
+        ensures sound { ⟦<MemHeap as Heap>⟧.is_sound self.new
+            ≡ ⟦<MemHeap as Heap>⟧.is_sound self.old }
+        ensures reads { OnOk result (⟦<MemHeap as Heap>⟧.reads_of self.new ≡ min
+            (⟦<MemHeap as Heap>⟧.reads_of self.old + 1) (2 ^ 64 - 1)) }
+        ensures reads_kept { OnErr result (⟦<MemHeap as Heap>⟧.reads_of self.new
+            ≡ ⟦<MemHeap as Heap>⟧.reads_of self.old) }
+        ensures refuses { Refuses (λ _ _. ⊥) (MayBeDead handle
+            (⟦<MemHeap as Heap>⟧.map_of self.old)) result }
+        ensures told { ⟦<MemHeap as Shows>⟧.told self.new ≡ ⟦<MemHeap as Shows>⟧.told self.old }
+        ensures left { ⟦<MemHeap as Shows>⟧.left self.new ≡ ⟦<MemHeap as Shows>⟧.left self.old }
+        ensures fixed { ⟦<MemHeap as Shows>⟧.fixed self.new ≡ ⟦<MemHeap as Shows>⟧.fixed self.old }
+        ensures cause { IsCausedTrouble result (⟦<MemHeap as Shows>⟧.faults self.old)
+            (⟦<MemHeap as Shows>⟧.faults self.new) }
+
+        // An answer comes only of a handle that is live.
+        ensures live { OnOk result (IfSome (⟦<MemHeap as Heap>⟧.map_of self.old)
+            (λ map. IsSome (content_of handle map))) }
+    {
         let Some(content) = self.live.get(&handle) else {
             return Err(Trouble::Damaged);
         };
-        *out = Bytes::from_slice(self.alloc, content.as_slice())?;
+        out.clear();
+        out.extend(content.as_slice())?;
         self.reads = self.reads.saturating_add(1);
         Ok(())
     }
 
-    fn replace(&mut self, handle: u64, content: &[u8]) -> Result<(), Trouble> {
+    fn replace(&mut self, handle: u64, content: &[u8]) -> Result<(), Trouble>
+        requires ready { IsTrue (⟦<MemHeap as Heap>⟧.is_ready self.old) }
+        requires depth { 1 ≤ length (⟦<MemHeap as Heap>⟧.saved self.old) }
+        requires most { length content.now ≤ 65787 }
+        ensures replaced { OnOk result (IfSome (⟦<MemHeap as Heap>⟧.map_of self.old)
+            (λ map. IfSome (content_of handle map) (λ _. ⟦<MemHeap as Heap>⟧.map_of self.new ≡ Some
+            (with_content handle content.now map)))) }
+        ensures ready { OnOk result (⟦<MemHeap as Heap>⟧.is_ready self.new ≡ true) }
+        ensures refused { OnErr result (⟦<MemHeap as Heap>⟧.is_ready self.new ≡ false) }
+        ensures saved { ⟦<MemHeap as Heap>⟧.saved self.new ≡ ⟦<MemHeap as Heap>⟧.saved self.old }
+        ensures saved_sizes { ⟦<MemHeap as Heap>⟧.saved_sizes self.new
+            ≡ ⟦<MemHeap as Heap>⟧.saved_sizes self.old }
+        ensures limit { ⟦<MemHeap as Heap>⟧.limit_of self.new
+            ≡ ⟦<MemHeap as Heap>⟧.limit_of self.old }
+        ensures sound { ⟦<MemHeap as Heap>⟧.is_sound self.new
+            ≡ ⟦<MemHeap as Heap>⟧.is_sound self.old }
+        ensures reads { ⟦<MemHeap as Heap>⟧.reads_of self.new
+            ≡ ⟦<MemHeap as Heap>⟧.reads_of self.old }
+        ensures refuses { Refuses (λ need most. IsGrown handle (atoms_for (length content.now))
+            (⟦<MemHeap as Heap>⟧.map_of self.old) × IsFull (atoms_for (length content.now))
+            (⟦<MemHeap as Heap>⟧.most_free self.old) (⟦<MemHeap as Heap>⟧.size_of self.old)
+            (⟦<MemHeap as Heap>⟧.size_of self.new) (⟦<MemHeap as Heap>⟧.limit_of self.old) need
+            most) (MayBeDead handle (⟦<MemHeap as Heap>⟧.map_of self.old)) result }
+        ensures told { ⟦<MemHeap as Shows>⟧.told self.new ≡ ⟦<MemHeap as Shows>⟧.told self.old }
+        ensures left { ⟦<MemHeap as Shows>⟧.left self.new ≡ ⟦<MemHeap as Shows>⟧.left self.old }
+        ensures fixed { ⟦<MemHeap as Shows>⟧.fixed self.new ≡ ⟦<MemHeap as Shows>⟧.fixed self.old }
+        ensures cause { IsCausedTrouble result (⟦<MemHeap as Shows>⟧.faults self.old)
+            (⟦<MemHeap as Shows>⟧.faults self.new) }
+
+        // An answer comes only of a handle that is live.
+        ensures live { OnOk result (IfSome (⟦<MemHeap as Heap>⟧.map_of self.old)
+            (λ map. IsSome (content_of handle map))) }
+    {
         self.ready = false;
         if !self.live.contains_key(&handle) {
             return Err(Trouble::Damaged);
@@ -153,7 +221,35 @@ impl Heap for MemHeap {
         Ok(())
     }
 
-    fn remove(&mut self, handle: u64) -> Result<(), Trouble> {
+    fn remove(&mut self, handle: u64) -> Result<(), Trouble>
+        requires ready { IsTrue (⟦<MemHeap as Heap>⟧.is_ready self.old) }
+        requires depth { 1 ≤ length (⟦<MemHeap as Heap>⟧.saved self.old) }
+        ensures removed { OnOk result (IfSome (⟦<MemHeap as Heap>⟧.map_of self.old)
+            (λ map. IfSome (content_of handle map) (λ _. ⟦<MemHeap as Heap>⟧.map_of self.new ≡ Some
+            (without handle map)))) }
+        ensures ready { OnOk result (⟦<MemHeap as Heap>⟧.is_ready self.new ≡ true) }
+        ensures refused { OnErr result (⟦<MemHeap as Heap>⟧.is_ready self.new ≡ false) }
+        ensures saved { ⟦<MemHeap as Heap>⟧.saved self.new ≡ ⟦<MemHeap as Heap>⟧.saved self.old }
+        ensures saved_sizes { ⟦<MemHeap as Heap>⟧.saved_sizes self.new
+            ≡ ⟦<MemHeap as Heap>⟧.saved_sizes self.old }
+        ensures limit { ⟦<MemHeap as Heap>⟧.limit_of self.new
+            ≡ ⟦<MemHeap as Heap>⟧.limit_of self.old }
+        ensures sound { ⟦<MemHeap as Heap>⟧.is_sound self.new
+            ≡ ⟦<MemHeap as Heap>⟧.is_sound self.old }
+        ensures reads { ⟦<MemHeap as Heap>⟧.reads_of self.new
+            ≡ ⟦<MemHeap as Heap>⟧.reads_of self.old }
+        ensures refuses { Refuses (λ _ _. ⊥) (MayBeDead handle
+            (⟦<MemHeap as Heap>⟧.map_of self.old)) result }
+        ensures told { ⟦<MemHeap as Shows>⟧.told self.new ≡ ⟦<MemHeap as Shows>⟧.told self.old }
+        ensures left { ⟦<MemHeap as Shows>⟧.left self.new ≡ ⟦<MemHeap as Shows>⟧.left self.old }
+        ensures fixed { ⟦<MemHeap as Shows>⟧.fixed self.new ≡ ⟦<MemHeap as Shows>⟧.fixed self.old }
+        ensures cause { IsCausedTrouble result (⟦<MemHeap as Shows>⟧.faults self.old)
+            (⟦<MemHeap as Shows>⟧.faults self.new) }
+
+        // An answer comes only of a handle that is live.
+        ensures live { OnOk result (IfSome (⟦<MemHeap as Heap>⟧.map_of self.old)
+            (λ map. IsSome (content_of handle map))) }
+    {
         self.ready = false;
         match self.live.remove(&handle) {
             Some(_) => {
@@ -187,7 +283,23 @@ impl Heap for MemHeap {
 
     ghost contents = { λ h _. h.contents };
 
-    ghost sizes = { λ h. (length-replicate (length h.saved) 0 ∙ sym (length-map h.saved Some), λ _. refl) };
+    ghost sizes = { λ h. (
+      length-replicate (length h.saved) 0 ∙ sym
+          (length-map h.saved Some),
+      λ _. refl,
+    ) };
 
-    ghost same_heap = { λ x y same. record { map = ap (λ m. Some m.entries) same.0; saved = ap (map Some) same.1; size = refl; sizes = ap (λ s. replicate (length s) 0) same.1; limit = refl; free = refl; ready = same.2; sound = refl; reads = same.3 } };
+    ghost same_heap = { λ x y same. record {
+      map = ap (λ m. Some m.entries) same.0;
+      saved = ap
+          (map Some) same.1;
+      size = refl;
+      sizes = ap (λ s. replicate (length s) 0) same.1;
+      limit =
+          refl;
+      free = refl;
+      ready = same.2;
+      sound = refl;
+      reads = same.3;
+    } };
 }

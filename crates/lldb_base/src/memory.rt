@@ -154,5 +154,12 @@ impl BaseFiler for MemFiler {
 
     ghost told_size = { λ _ _. refl };
 
-    ghost same_filer = { λ x y same. record { held = ap (λ b. Some b.items) same.0; size = ap (λ b. length b.items) same.0; limit = same.1; sound = refl; moved = same.2 } };
+    ghost same_filer = { λ x y same. record {
+      held = ap (λ b. Some b.items) same.0;
+      size = ap
+          (λ b. length b.items) same.0;
+      limit = same.1;
+      sound = refl;
+      moved = same.2;
+    } };
 }

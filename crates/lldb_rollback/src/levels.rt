@@ -29,7 +29,8 @@ pub struct RollbackFiler<F: BaseFiler> {
     present: Vec<u8>,
     /// The contents saved since the first change.
     copies: Stack,
-    ghost copied: { AreCopied (F.is_sound below) (F.content below) (F.size_of below) (F.limit_of below) early changed base.items present.items copies },
+    ghost copied: { AreCopied (F.is_sound below) (F.content below) (F.size_of below)
+        (F.limit_of below) early changed base.items present.items copies },
     ghost floor: { F.floor ≡ 0 },
 }
 
@@ -62,9 +63,12 @@ impl<F: BaseFiler> RollbackFiler<F> {
 
     /// The filer below.
     pub fn into_below(self) -> F
-        requires { (⟦<RollbackFiler<F> as Filer>⟧.saved self ≡ []) ⊎ (⟦<RollbackFiler<F> as Filer>⟧.is_sound self ≡ false) }
-        ensures content { ⟦<RollbackFiler<F> as Filer>⟧.saved self ≡ [] → F.content result ≡ ⟦<RollbackFiler<F> as Filer>⟧.content self }
-        ensures size { ⟦<RollbackFiler<F> as Filer>⟧.saved self ≡ [] → F.size_of result ≡ ⟦<RollbackFiler<F> as Filer>⟧.size_of self }
+        requires { (⟦<RollbackFiler<F> as Filer>⟧.saved self ≡ []) ⊎
+            (⟦<RollbackFiler<F> as Filer>⟧.is_sound self ≡ false) }
+        ensures content { ⟦<RollbackFiler<F> as Filer>⟧.saved self ≡ [] → F.content result
+            ≡ ⟦<RollbackFiler<F> as Filer>⟧.content self }
+        ensures size { ⟦<RollbackFiler<F> as Filer>⟧.saved self ≡ [] → F.size_of result
+            ≡ ⟦<RollbackFiler<F> as Filer>⟧.size_of self }
         ensures limit { F.limit_of result ≡ ⟦<RollbackFiler<F> as Filer>⟧.limit_of self }
         ensures sound { F.is_sound result ≡ ⟦<RollbackFiler<F> as Filer>⟧.is_sound self }
         ensures told { F.told result ≡ ⟦<RollbackFiler<F> as Shows>⟧.told self }
@@ -80,17 +84,27 @@ impl<F: BaseFiler> RollbackFiler<F> {
         requires sound { IsTrue (⟦<RollbackFiler<F> as Filer>⟧.is_sound self.old) }
         requires depth { 1 ≤ length (⟦<RollbackFiler<F> as Filer>⟧.saved self.old) }
         ensures changed { OnOk result (self.new.changed ≡ true) }
-        ensures content { ⟦<RollbackFiler<F> as Filer>⟧.content self.new ≡ ⟦<RollbackFiler<F> as Filer>⟧.content self.old }
-        ensures saved { ⟦<RollbackFiler<F> as Filer>⟧.saved self.new ≡ ⟦<RollbackFiler<F> as Filer>⟧.saved self.old }
-        ensures saved_sizes { ⟦<RollbackFiler<F> as Filer>⟧.saved_sizes self.new ≡ ⟦<RollbackFiler<F> as Filer>⟧.saved_sizes self.old }
-        ensures size { ⟦<RollbackFiler<F> as Filer>⟧.size_of self.new ≡ ⟦<RollbackFiler<F> as Filer>⟧.size_of self.old }
-        ensures limit { ⟦<RollbackFiler<F> as Filer>⟧.limit_of self.new ≡ ⟦<RollbackFiler<F> as Filer>⟧.limit_of self.old }
-        ensures sound { ⟦<RollbackFiler<F> as Filer>⟧.is_sound self.new ≡ ⟦<RollbackFiler<F> as Filer>⟧.is_sound self.old }
+        ensures content { ⟦<RollbackFiler<F> as Filer>⟧.content self.new
+            ≡ ⟦<RollbackFiler<F> as Filer>⟧.content self.old }
+        ensures saved { ⟦<RollbackFiler<F> as Filer>⟧.saved self.new
+            ≡ ⟦<RollbackFiler<F> as Filer>⟧.saved self.old }
+        ensures saved_sizes { ⟦<RollbackFiler<F> as Filer>⟧.saved_sizes self.new
+            ≡ ⟦<RollbackFiler<F> as Filer>⟧.saved_sizes self.old }
+        ensures size { ⟦<RollbackFiler<F> as Filer>⟧.size_of self.new
+            ≡ ⟦<RollbackFiler<F> as Filer>⟧.size_of self.old }
+        ensures limit { ⟦<RollbackFiler<F> as Filer>⟧.limit_of self.new
+            ≡ ⟦<RollbackFiler<F> as Filer>⟧.limit_of self.old }
+        ensures sound { ⟦<RollbackFiler<F> as Filer>⟧.is_sound self.new
+            ≡ ⟦<RollbackFiler<F> as Filer>⟧.is_sound self.old }
         ensures refuses { Refuses (λ _ _. ⊥) ⊥ result }
-        ensures told { ⟦<RollbackFiler<F> as Shows>⟧.told self.new ≡ ⟦<RollbackFiler<F> as Shows>⟧.told self.old }
-        ensures left { ⟦<RollbackFiler<F> as Shows>⟧.left self.new ≡ ⟦<RollbackFiler<F> as Shows>⟧.left self.old }
-        ensures fixed { ⟦<RollbackFiler<F> as Shows>⟧.fixed self.new ≡ ⟦<RollbackFiler<F> as Shows>⟧.fixed self.old }
-        ensures cause { IsCausedTrouble result (⟦<RollbackFiler<F> as Shows>⟧.faults self.old) (⟦<RollbackFiler<F> as Shows>⟧.faults self.new) }
+        ensures told { ⟦<RollbackFiler<F> as Shows>⟧.told self.new
+            ≡ ⟦<RollbackFiler<F> as Shows>⟧.told self.old }
+        ensures left { ⟦<RollbackFiler<F> as Shows>⟧.left self.new
+            ≡ ⟦<RollbackFiler<F> as Shows>⟧.left self.old }
+        ensures fixed { ⟦<RollbackFiler<F> as Shows>⟧.fixed self.new
+            ≡ ⟦<RollbackFiler<F> as Shows>⟧.fixed self.old }
+        ensures cause { IsCausedTrouble result (⟦<RollbackFiler<F> as Shows>⟧.faults self.old)
+            (⟦<RollbackFiler<F> as Shows>⟧.faults self.new) }
     {
         if self.changed {
             return Ok(());
@@ -105,9 +119,11 @@ impl<F: BaseFiler> RollbackFiler<F> {
     /// What the outermost end writes.
     fn batch(&self) -> Result<Batch, NoMemory>
         requires { IsTrue (⟦<RollbackFiler<F> as Filer>⟧.is_sound self.now) }
-        ensures applied { IfOk result (λ batch. option_map (applied 0 batch) (F.content self.now.below) ≡ ⟦<RollbackFiler<F> as Filer>⟧.content self.now) }
+        ensures applied { IfOk result (λ batch. option_map (applied 0 batch)
+            (F.content self.now.below) ≡ ⟦<RollbackFiler<F> as Filer>⟧.content self.now) }
         ensures fits { IfOk result (λ batch. CanTake 0 0 (F.size_of self.now.below) batch) }
-        ensures size { IfOk result (λ batch. batch.size ≡ ⟦<RollbackFiler<F> as Filer>⟧.size_of self.now) }
+        ensures size { IfOk result (λ batch. batch.size ≡ ⟦<RollbackFiler<F> as Filer>⟧.size_of
+            self.now) }
     {
         if !self.changed {
             return Ok(Batch::new(self.alloc, self.below.size()));
@@ -119,20 +135,32 @@ impl<F: BaseFiler> RollbackFiler<F> {
     fn store(&mut self) -> Result<(), Trouble>
         requires sound { IsTrue (⟦<RollbackFiler<F> as Filer>⟧.is_sound self.old) }
         requires depth { length (⟦<RollbackFiler<F> as Filer>⟧.saved self.old) ≡ 1 }
-        ensures content { OnOk result (⟦<RollbackFiler<F> as Filer>⟧.content self.new ≡ ⟦<RollbackFiler<F> as Filer>⟧.content self.old) }
-        ensures kept { OnErr result (IsTrue (⟦<RollbackFiler<F> as Filer>⟧.is_sound self.new) → ⟦<RollbackFiler<F> as Filer>⟧.content self.new ≡ ⟦<RollbackFiler<F> as Filer>⟧.content self.old) }
+        ensures content { OnOk result (⟦<RollbackFiler<F> as Filer>⟧.content self.new
+            ≡ ⟦<RollbackFiler<F> as Filer>⟧.content self.old) }
+        ensures kept { OnErr result (IsTrue (⟦<RollbackFiler<F> as Filer>⟧.is_sound self.new)
+            → ⟦<RollbackFiler<F> as Filer>⟧.content self.new
+            ≡ ⟦<RollbackFiler<F> as Filer>⟧.content self.old) }
         ensures saved { OnOk result (⟦<RollbackFiler<F> as Filer>⟧.saved self.new ≡ []) }
-        ensures saved_kept { OnErr result (IsTrue (⟦<RollbackFiler<F> as Filer>⟧.is_sound self.new) → ⟦<RollbackFiler<F> as Filer>⟧.saved self.new ≡ ⟦<RollbackFiler<F> as Filer>⟧.saved self.old) }
+        ensures saved_kept { OnErr result (IsTrue (⟦<RollbackFiler<F> as Filer>⟧.is_sound self.new)
+            → ⟦<RollbackFiler<F> as Filer>⟧.saved self.new
+            ≡ ⟦<RollbackFiler<F> as Filer>⟧.saved self.old) }
         ensures saved_sizes { OnOk result (⟦<RollbackFiler<F> as Filer>⟧.saved_sizes self.new ≡ []) }
-        ensures saved_sizes_kept { OnErr result (⟦<RollbackFiler<F> as Filer>⟧.saved_sizes self.new ≡ ⟦<RollbackFiler<F> as Filer>⟧.saved_sizes self.old) }
-        ensures size { ⟦<RollbackFiler<F> as Filer>⟧.size_of self.new ≡ ⟦<RollbackFiler<F> as Filer>⟧.size_of self.old }
-        ensures limit { ⟦<RollbackFiler<F> as Filer>⟧.limit_of self.new ≡ ⟦<RollbackFiler<F> as Filer>⟧.limit_of self.old }
+        ensures saved_sizes_kept { OnErr result (⟦<RollbackFiler<F> as Filer>⟧.saved_sizes self.new
+            ≡ ⟦<RollbackFiler<F> as Filer>⟧.saved_sizes self.old) }
+        ensures size { ⟦<RollbackFiler<F> as Filer>⟧.size_of self.new
+            ≡ ⟦<RollbackFiler<F> as Filer>⟧.size_of self.old }
+        ensures limit { ⟦<RollbackFiler<F> as Filer>⟧.limit_of self.new
+            ≡ ⟦<RollbackFiler<F> as Filer>⟧.limit_of self.old }
         ensures sound { SoundAfter result (⟦<RollbackFiler<F> as Filer>⟧.is_sound self.new) }
         ensures refuses { Refuses (λ _ _. ⊥) ⊥ result }
-        ensures told { ⟦<RollbackFiler<F> as Shows>⟧.told self.new ≡ ⟦<RollbackFiler<F> as Shows>⟧.told self.old }
-        ensures left { ⟦<RollbackFiler<F> as Shows>⟧.left self.new ≡ ⟦<RollbackFiler<F> as Shows>⟧.left self.old }
-        ensures fixed { ⟦<RollbackFiler<F> as Shows>⟧.fixed self.new ≡ ⟦<RollbackFiler<F> as Shows>⟧.fixed self.old }
-        ensures cause { IsCausedTrouble result (⟦<RollbackFiler<F> as Shows>⟧.faults self.old) (⟦<RollbackFiler<F> as Shows>⟧.faults self.new) }
+        ensures told { ⟦<RollbackFiler<F> as Shows>⟧.told self.new
+            ≡ ⟦<RollbackFiler<F> as Shows>⟧.told self.old }
+        ensures left { ⟦<RollbackFiler<F> as Shows>⟧.left self.new
+            ≡ ⟦<RollbackFiler<F> as Shows>⟧.left self.old }
+        ensures fixed { ⟦<RollbackFiler<F> as Shows>⟧.fixed self.new
+            ≡ ⟦<RollbackFiler<F> as Shows>⟧.fixed self.old }
+        ensures cause { IsCausedTrouble result (⟦<RollbackFiler<F> as Shows>⟧.faults self.old)
+            (⟦<RollbackFiler<F> as Shows>⟧.faults self.new) }
     {
         let batch = self.batch()?;
         self.below.commit(&batch, 0)?;
@@ -145,7 +173,7 @@ impl<F: BaseFiler> RollbackFiler<F> {
 }
 
 /// So many zeros.
-fn zeros(alloc: Global, count: usize) -> Result<Vec<u8>, NoMemory>
+pub(crate) fn zeros(alloc: Global, count: usize) -> Result<Vec<u8>, NoMemory>
     ensures { IfOk result (λ zeros. length zeros.items ≡ count) }
 {
     let mut zeros = Vec::new(alloc);
@@ -180,13 +208,22 @@ impl<F: BaseFiler> Shows for RollbackFiler<F> {
 
     ghost left = { λ f. F.left f.below };
 
-    ghost same = { λ x y. F.same x.below y.below × (y.early ≡ x.early) × (y.changed ≡ x.changed) × (y.base ≡ x.base) × (y.present ≡ x.present) × (y.copies ≡ x.copies) };
+    ghost same = { λ x y. F.same x.below y.below × (y.early ≡ x.early) × (y.changed ≡ x.changed) ×
+        (y.base ≡ x.base) × (y.present ≡ x.present) × (y.copies ≡ x.copies) };
 
     ghost fixed = { λ f. F.fixed f.below };
 
     ghost same_reflexive = { λ x. (F.same_reflexive x.below, refl, refl, refl, refl, refl) };
 
-    ghost same_transitive = { λ x y z p q. (F.same_transitive x.below y.below z.below p.0 q.0, q.1 ∙ p.1, q.2 ∙ p.2, q.3 ∙ p.3, q.4 ∙ p.4, q.5 ∙ p.5) };
+    ghost same_transitive = { λ x y z p q. (
+      F.same_transitive x.below y.below z.below p.0 q.0,
+      q.1 ∙
+          p.1,
+      q.2 ∙ p.2,
+      q.3 ∙ p.3,
+      q.4 ∙ p.4,
+      q.5 ∙ p.5,
+    ) };
 
     #[tactic(auto, using(crate::proofs::Copied::copied_shown))]
     fn show(&mut self, piece: &[u8]) -> Result<u64, DeviceFault> {
@@ -293,9 +330,12 @@ impl<F: BaseFiler> Filer for RollbackFiler<F> {
         }
     }
 
-    ghost sizes = { λ f. sizes_held f.early f.changed f.present.items f.copies _ _ (F.sizes f.below) f.copied };
+    ghost sizes = { λ f. sizes_held f.early f.changed f.present.items f.copies _ _
+        (F.sizes f.below) f.copied };
 
-    ghost told_size = { λ f sound. told_held f.changed f.present.items _ _ (F.told_size f.below sound) };
+    ghost told_size = { λ f sound. told_held f.changed f.present.items _ _
+        (F.told_size f.below sound) };
 
-    ghost same_filer = { λ x y same. same_held same.1 same.2 (ap (λ v. v.items) same.4) same.5 (F.same_filer x.below y.below same.0) };
+    ghost same_filer = { λ x y same. same_held same.1 same.2 (ap (λ v. v.items) same.4) same.5
+        (F.same_filer x.below y.below same.0) };
 }

@@ -6,3 +6,6 @@ mod levels;
 mod stack;
 
 pub use levels::RollbackFiler;
+
+#[cfg(test)]
+mod tests;

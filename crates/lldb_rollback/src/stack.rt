@@ -45,7 +45,8 @@ impl Stack {
 
     #[tactic(auto, using(crate::proofs::Stacks::pushed))]
     pub fn pop(&mut self) -> Option<Bytes>
-        ensures { MatchOption result ((self.old ≡ []) × (self.new ≡ [])) (λ top. self.old ≡ top ∷ self.new) }
+        ensures { MatchOption result ((self.old ≡ []) × (self.new ≡ []))
+            (λ top. self.old ≡ top ∷ self.new) }
     {
         let copy = self.copies.pop()?;
         Some(copy)
