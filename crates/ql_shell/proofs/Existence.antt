@@ -58,9 +58,9 @@ some_tokens source (Err lex.NoMemory) within h = absurd (not_memory h refl)
 pub something : (source : List ℕ) → Something source
 something source = by (leb_tells (length source) longest_script)
   where
-  by : ((leb (length source) longest_script ≡ true) × (length source ≤ longest_script)) ⊎ ((leb (length source) longest_script ≡ false) × (longest_script < length source)) → Something source
-  by (inl h) = let o = outcome source in some_tokens source o.0 h.1 o.1
-  by (inr h) = (_, too_long h.1)
+    by : ((leb (length source) longest_script ≡ true) × (length source ≤ longest_script)) ⊎ ((leb (length source) longest_script ≡ false) × (longest_script < length source)) → Something source
+    by (inl h) = let o = outcome source in some_tokens source o.0 h.1 o.1
+    by (inr h) = (_, too_long h.1)
 
 -- words, and a script that is told, mean something
 pub meant : (asked : Command) (input : Option (List ℕ)) → TellsScript asked input → (answer : Answer) × Means asked input answer

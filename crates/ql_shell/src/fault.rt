@@ -42,7 +42,8 @@ pub fn refused(alloc: Global, number: u8) -> StepFault
 
 /// A refusal that shows a name, or want of memory for it.
 pub fn refused_at(alloc: Global, number: u8, name: &Name) -> StepFault
-    ensures { (result ≡ step.Refused (record { number = number; name = name.now })) ⊎ (result ≡ step.Device device.NoMemory) }
+    ensures { (result ≡ step.Refused (record { number = number; name = name.now }))
+        ⊎ (result ≡ step.Device device.NoMemory) }
 {
     match Name::new(alloc, name.as_slice()) {
         Ok(name) => StepFault::Refused(Refusal {

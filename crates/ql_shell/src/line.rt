@@ -92,8 +92,10 @@ fn warn_made_line<M: Shows>(
     machine: &mut M,
     status: &Status,
 ) -> Result<(), DeviceFault>
-    ensures whole { OnOk result (M.told machine.new ≡ with_warned (line_of status.now) (M.told machine.old)) }
-    ensures part { result ≡ Err device.Failed → (n : ℕ) × (n < length (line_of status.now)) × (M.told machine.new ≡ with_warned (take n (line_of status.now)) (M.told machine.old)) }
+    ensures whole { OnOk result (M.told machine.new ≡ with_warned (line_of status.now)
+        (M.told machine.old)) }
+    ensures part { result ≡ Err device.Failed → (n : ℕ) × (n < length (line_of status.now))
+        × (M.told machine.new ≡ with_warned (take n (line_of status.now)) (M.told machine.old)) }
     ensures shown { shown_of (M.told machine.new) ≡ shown_of (M.told machine.old) }
     ensures frame { Keeps M.left M.fixed machine.old machine.new }
     ensures cause { IsCaused result (M.faults machine.old) (M.faults machine.new) }
@@ -104,8 +106,10 @@ fn warn_made_line<M: Shows>(
 }
 
 fn warn_line<M: Shows>(alloc: Global, machine: &mut M, status: &Status) -> Result<(), DeviceFault>
-    ensures whole { OnOk result (M.told machine.new ≡ with_warned (line_of status.now) (M.told machine.old)) }
-    ensures part { result ≡ Err device.Failed → (n : ℕ) × (n < length (line_of status.now)) × (M.told machine.new ≡ with_warned (take n (line_of status.now)) (M.told machine.old)) }
+    ensures whole { OnOk result (M.told machine.new ≡ with_warned (line_of status.now)
+        (M.told machine.old)) }
+    ensures part { result ≡ Err device.Failed → (n : ℕ) × (n < length (line_of status.now))
+        × (M.told machine.new ≡ with_warned (take n (line_of status.now)) (M.told machine.old)) }
     ensures shown { shown_of (M.told machine.new) ≡ shown_of (M.told machine.old) }
     ensures frame { Keeps M.left M.fixed machine.old machine.new }
     ensures cause { IsCaused result (M.faults machine.old) (M.faults machine.new) }
@@ -120,7 +124,8 @@ fn warn_line<M: Shows>(alloc: Global, machine: &mut M, status: &Status) -> Resul
 /// Warns the line of a status. A refusal leaves the status as it is, but that want of memory takes its place.
 pub fn warn<M: Shows>(alloc: Global, machine: &mut M, status: Status) -> Status
     ensures same { (result ≡ status) ⊎ (result ≡ ended.NoMemory) }
-    ensures warned { WarnsLine result (warned_of (M.told machine.old)) (warned_of (M.told machine.new)) (M.faults machine.old) (M.faults machine.new) }
+    ensures warned { WarnsLine result (warned_of (M.told machine.old))
+        (warned_of (M.told machine.new)) (M.faults machine.old) (M.faults machine.new) }
     ensures shown { shown_of (M.told machine.new) ≡ shown_of (M.told machine.old) }
     ensures frame { Keeps M.left M.fixed machine.old machine.new }
 {

@@ -30,9 +30,13 @@ fn read_piece<M: Machine>(
     requires { 0 < length buffer.old }
     ensures more { IfOk result (λ more. more ≡ true → length source.old < length source.new) }
     ensures within { length source.new ≤ length source.old + length buffer.old }
-    ensures piece { IfOk result (λ more. more ≡ true → AddsPiece source.old source.new (M.left machine.old) (M.left machine.new)) }
-    ensures end { IfOk result (λ more. more ≡ false → (source.new ≡ source.old) × (M.left machine.new ≡ M.left machine.old) × IfSome (M.left machine.old) (λ rest. rest ≡ [])) }
-    ensures takes { OnErr result (TakesAtMost (length buffer.old) (M.left machine.old) (M.left machine.new)) }
+    ensures piece { IfOk result (λ more. more ≡ true
+        → AddsPiece source.old source.new (M.left machine.old) (M.left machine.new)) }
+    ensures end { IfOk result (λ more. more ≡ false → (source.new ≡ source.old)
+        × (M.left machine.new ≡ M.left machine.old) × IfSome (M.left machine.old)
+        (λ rest. rest ≡ [])) }
+    ensures takes { OnErr result (TakesAtMost (length buffer.old) (M.left machine.old)
+        (M.left machine.new)) }
     ensures only { IfErr result (λ s. (s ≡ status.Fault) ⊎ (s ≡ status.NoMemory)) }
     ensures frame { Keeps M.told M.fixed machine.old machine.new }
     ensures cause { IsCausedReading result (M.faults machine.old) (M.faults machine.new) }
@@ -52,10 +56,12 @@ fn read_pieces<M: Machine>(
 ) -> Result<(), Status>
     requires some { 0 < length buffer.old }
     requires empty { source.old ≡ [] }
-    ensures whole { OnOk result (M.left machine.old ≡ option_map (λ _. source.new) (M.left machine.old)) }
+    ensures whole { OnOk result (M.left machine.old ≡ option_map (λ _. source.new)
+        (M.left machine.old)) }
     ensures within { OnOk result (length source.new ≤ longest_script) }
     ensures end { OnOk result (M.left machine.new ≡ option_map (λ _. []) (M.left machine.old)) }
-    ensures too_long { result ≡ Err (status.Script TooLong) → IfSome (M.left machine.old) (λ script. longest_script < length script) }
+    ensures too_long { result ≡ Err (status.Script TooLong)
+        → IfSome (M.left machine.old) (λ script. longest_script < length script) }
     ensures takes { IfErr result (λ s. TakesInput s (M.left machine.old) (M.left machine.new)) }
     ensures most { TakesAtMost (longest_script + 1) (M.left machine.old) (M.left machine.new) }
     ensures only { IfErr result IsReadingFault }
@@ -74,10 +80,12 @@ fn read_pieces<M: Machine>(
 
 /// Reads the script to its end, or to the first byte over the limit.
 pub fn read_script<M: Machine>(alloc: Global, machine: &mut M) -> Result<Bytes, Status>
-    ensures whole { IfOk result (λ source. M.left machine.old ≡ option_map (λ _. source) (M.left machine.old)) }
+    ensures whole { IfOk result (λ source. M.left machine.old
+        ≡ option_map (λ _. source) (M.left machine.old)) }
     ensures within { IfOk result (λ source. length source ≤ longest_script) }
     ensures end { OnOk result (M.left machine.new ≡ option_map (λ _. []) (M.left machine.old)) }
-    ensures too_long { result ≡ Err (status.Script TooLong) → IfSome (M.left machine.old) (λ script. longest_script < length script) }
+    ensures too_long { result ≡ Err (status.Script TooLong)
+        → IfSome (M.left machine.old) (λ script. longest_script < length script) }
     ensures takes { IfErr result (λ s. TakesInput s (M.left machine.old) (M.left machine.new)) }
     ensures most { TakesAtMost (longest_script + 1) (M.left machine.old) (M.left machine.new) }
     ensures only { IfErr result IsReadingFault }

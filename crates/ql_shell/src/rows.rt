@@ -23,8 +23,10 @@ fn add_row(number: u64, out: &mut Bytes) -> Result<(), NoMemory>
 
 /// Adds a row to what is held back, and shows it where it is a piece.
 fn show_row<M: Shows>(machine: &mut M, held: &mut Bytes, number: u64) -> Result<(), DeviceFault>
-    ensures ok { OnOk result (HoldsBack (held.old ++ row_text number) (M.told machine.old) (M.told machine.new) held.new) }
-    ensures refused { OnErr result (ShowsFront (held.old ++ row_text number) (M.told machine.old) (M.told machine.new)) }
+    ensures ok { OnOk result (HoldsBack (held.old ++ row_text number) (M.told machine.old)
+        (M.told machine.new) held.new) }
+    ensures refused { OnErr result (ShowsFront (held.old ++ row_text number) (M.told machine.old)
+        (M.told machine.new)) }
     ensures frame { Keeps M.left M.fixed machine.old machine.new }
     ensures cause { IsCaused result (M.faults machine.old) (M.faults machine.new) }
 {
@@ -43,8 +45,10 @@ fn show_numbers<M: Shows>(
     held: &mut Bytes,
     numbers: &[u64],
 ) -> Result<(), DeviceFault>
-    ensures ok { OnOk result (HoldsBack (held.old ++ lines numbers.now) (M.told machine.old) (M.told machine.new) held.new) }
-    ensures refused { OnErr result (ShowsFront (held.old ++ lines numbers.now) (M.told machine.old) (M.told machine.new)) }
+    ensures ok { OnOk result (HoldsBack (held.old ++ lines numbers.now) (M.told machine.old)
+        (M.told machine.new) held.new) }
+    ensures refused { OnErr result (ShowsFront (held.old ++ lines numbers.now) (M.told machine.old)
+        (M.told machine.new)) }
     ensures frame { Keeps M.left M.fixed machine.old machine.new }
     ensures cause { IsCaused result (M.faults machine.old) (M.faults machine.new) }
 {
@@ -60,8 +64,10 @@ pub fn show_rows<M: Shows>(
     machine: &mut M,
     pieces: &[Numbers],
 ) -> Result<(), DeviceFault>
-    ensures ok { OnOk result (M.told machine.new ≡ with_shown (lines (flat_map (λ piece. piece) pieces.now)) (M.told machine.old)) }
-    ensures refused { OnErr result (ShowsFront (lines (flat_map (λ piece. piece) pieces.now)) (M.told machine.old) (M.told machine.new)) }
+    ensures ok { OnOk result (M.told machine.new ≡ with_shown
+        (lines (flat_map (λ piece. piece) pieces.now)) (M.told machine.old)) }
+    ensures refused { OnErr result (ShowsFront (lines (flat_map (λ piece. piece) pieces.now))
+        (M.told machine.old) (M.told machine.new)) }
     ensures frame { Keeps M.left M.fixed machine.old machine.new }
     ensures cause { IsCaused result (M.faults machine.old) (M.faults machine.new) }
 {

@@ -44,7 +44,8 @@ fn stop_status(statement: u64, fault: StepFault) -> Status
 
 /// Carries out statements in turn, from no tables, up to the first that is refused.
 fn carry_out<M: Shows>(alloc: Global, machine: &mut M, statements: Statements) -> Status
-    ensures gives { Gives (answered (meaning 1 statements [])) result (M.told machine.old) (M.told machine.new) }
+    ensures gives { Gives (answered (meaning 1 statements [])) result (M.told machine.old)
+        (M.told machine.new) }
     ensures warned { warned_of (M.told machine.new) ≡ warned_of (M.told machine.old) }
     ensures ends { EndsStatements result }
     ensures frame { Keeps M.left M.fixed machine.old machine.new }
@@ -87,7 +88,8 @@ fn answer_script<M: Shows>(alloc: Global, machine: &mut M, source: Bytes) -> Sta
 /// The text of the words, where it is not too long.
 fn short_text(text: Bytes) -> Result<Bytes, Status>
     ensures ok { IfOk result (λ source. (source ≡ text) × (length source ≤ longest_script)) }
-    ensures too_long { IfErr result (λ s. (s ≡ ended.Script fault.TooLong) × (longest_script < length text)) }
+    ensures too_long { IfErr result (λ s. (s ≡ ended.Script fault.TooLong)
+        × (longest_script < length text)) }
 {
     if text.len() > SCRIPT_LIMIT {
         return Err(Status::Script(ScriptFault::TooLong));
@@ -120,8 +122,10 @@ fn take_script<M: Machine>(
 
 /// Does what the words ask for.
 fn answer_command<M: Machine>(alloc: Global, command: Command, machine: &mut M) -> Status
-    ensures gives { (answer : Answer) → Means command (M.left machine.old) answer → Gives answer result (M.told machine.old) (M.told machine.new) }
-    ensures means { TellsScript command (M.left machine.old) → IsFinal result → (answer : Answer) × Means command (M.left machine.old) answer × (result ≡ answer.status) }
+    ensures gives { (answer : Answer) → Means command (M.left machine.old) answer
+        → Gives answer result (M.told machine.old) (M.told machine.new) }
+    ensures means { TellsScript command (M.left machine.old) → IsFinal result
+        → (answer : Answer) × Means command (M.left machine.old) answer × (result ≡ answer.status) }
     ensures usage { (word : ℕ) → command ≡ asked.Usage word → result ≡ ended.Usage word }
     ensures usage_only { (word : ℕ) → result ≡ ended.Usage word → command ≡ asked.Usage word }
     ensures silent { IsRefusedWhole result → M.told machine.new ≡ M.told machine.old }
@@ -140,15 +144,22 @@ fn answer_command<M: Machine>(alloc: Global, command: Command, machine: &mut M) 
 
 /// Reads the words, and does what they ask for.
 fn answer<M: Machine>(alloc: Global, words: &[String], machine: &mut M) -> Status
-    ensures gives { (answer : Answer) → Means (command_of (map string_bytes words.now)) (M.left machine.old) answer → Gives answer result (M.told machine.old) (M.told machine.new) }
-    ensures means { TellsScript (command_of (map string_bytes words.now)) (M.left machine.old) → IsFinal result
-        → (answer : Answer) × Means (command_of (map string_bytes words.now)) (M.left machine.old) answer × (result ≡ answer.status) }
-    ensures usage { (word : ℕ) → command_of (map string_bytes words.now) ≡ asked.Usage word → (result ≡ ended.Usage word) ⊎ (result ≡ ended.NoMemory) }
-    ensures usage_only { (word : ℕ) → result ≡ ended.Usage word → command_of (map string_bytes words.now) ≡ asked.Usage word }
+    ensures gives { (answer : Answer) → Means (command_of (map string_bytes words.now))
+        (M.left machine.old) answer → Gives answer result (M.told machine.old)
+        (M.told machine.new) }
+    ensures means { TellsScript (command_of (map string_bytes words.now)) (M.left machine.old)
+        → IsFinal result
+        → (answer : Answer) × Means (command_of (map string_bytes words.now))
+        (M.left machine.old) answer × (result ≡ answer.status) }
+    ensures usage { (word : ℕ) → command_of (map string_bytes words.now) ≡ asked.Usage word
+        → (result ≡ ended.Usage word) ⊎ (result ≡ ended.NoMemory) }
+    ensures usage_only { (word : ℕ) → result ≡ ended.Usage word
+        → command_of (map string_bytes words.now) ≡ asked.Usage word }
     ensures silent { IsRefusedWhole result → M.told machine.new ≡ M.told machine.old }
     ensures shows { ShowsText (M.told machine.old) (M.told machine.new) }
     ensures warned { warned_of (M.told machine.new) ≡ warned_of (M.told machine.old) }
-    ensures takes { Takes (command_of (map string_bytes words.now)) result (M.left machine.old) (M.left machine.new) }
+    ensures takes { Takes (command_of (map string_bytes words.now)) result (M.left machine.old)
+        (M.left machine.new) }
     ensures most { TakesAtMost (longest_script + 1) (M.left machine.old) (M.left machine.new) }
     ensures fixed { M.fixed machine.new ≡ M.fixed machine.old }
     ensures cause { IsCausedStatus result (M.faults machine.old) (M.faults machine.new) }
@@ -165,7 +176,8 @@ fn answer<M: Machine>(alloc: Global, words: &[String], machine: &mut M) -> Statu
 /// The machine comes back with all that happened to it.
 pub fn run<M: Machine>(alloc: Global, words: &Vec<String>, machine: M) -> (M, Status)
     // What is shown is a front of the text that the words and the script mean.
-    ensures shown { (answer : Answer) → Means (command_of (map string_bytes words.now.items)) (M.left machine) answer
+    ensures shown { (answer : Answer) → Means (command_of (map string_bytes words.now.items))
+        (M.left machine) answer
         → IsFrontShown answer.text (shown_of (M.told machine)) (shown_of (M.told result.0)) }
 
     // Words and a script that is told always mean something.
@@ -173,19 +185,27 @@ pub fn run<M: Machine>(alloc: Global, words: &Vec<String>, machine: M) -> (M, St
         → (answer : Answer) × Means command input answer }
 
     // Without a fault and want of memory, all of the text is shown, and the status is the script's own.
-    ensures whole { TellsScript (command_of (map string_bytes words.now.items)) (M.left machine) → IsFinal result.1
-        → (answer : Answer) × Means (command_of (map string_bytes words.now.items)) (M.left machine) answer × (result.1 ≡ answer.status)
+    ensures whole { TellsScript (command_of (map string_bytes words.now.items)) (M.left machine)
+        → IsFinal result.1
+        → (answer : Answer) × Means (command_of (map string_bytes words.now.items))
+        (M.left machine) answer × (result.1 ≡ answer.status)
         × IsShown answer.text (shown_of (M.told machine)) (shown_of (M.told result.0)) }
-    ensures answered { (answer : Answer) → Means (command_of (map string_bytes words.now.items)) (M.left machine) answer
+    ensures answered { (answer : Answer) → Means (command_of (map string_bytes words.now.items))
+        (M.left machine) answer
         → (result.1 ≡ answer.status) ⊎ (result.1 ≡ ended.Fault) ⊎ (result.1 ≡ ended.NoMemory) }
 
     // The rest holds of every machine, whatever it tells.
-    ensures usage { (word : ℕ) → command_of (map string_bytes words.now.items) ≡ asked.Usage word → (result.1 ≡ ended.Usage word) ⊎ (result.1 ≡ ended.NoMemory) }
-    ensures usage_only { (word : ℕ) → result.1 ≡ ended.Usage word → command_of (map string_bytes words.now.items) ≡ asked.Usage word }
-    ensures silent { IsRefusedWhole result.1 → shown_of (M.told result.0) ≡ shown_of (M.told machine) }
-    ensures warned { Warns result.1 (warned_of (M.told machine)) (warned_of (M.told result.0)) (M.faults machine) (M.faults result.0) }
+    ensures usage { (word : ℕ) → command_of (map string_bytes words.now.items) ≡ asked.Usage word
+        → (result.1 ≡ ended.Usage word) ⊎ (result.1 ≡ ended.NoMemory) }
+    ensures usage_only { (word : ℕ) → result.1 ≡ ended.Usage word
+        → command_of (map string_bytes words.now.items) ≡ asked.Usage word }
+    ensures silent { IsRefusedWhole result.1 → shown_of (M.told result.0)
+        ≡ shown_of (M.told machine) }
+    ensures warned { Warns result.1 (warned_of (M.told machine)) (warned_of (M.told result.0))
+        (M.faults machine) (M.faults result.0) }
     ensures fault { result.1 ≡ ended.Fault → Rose (M.faults machine) (M.faults result.0) }
-    ensures reads { Takes (command_of (map string_bytes words.now.items)) result.1 (M.left machine) (M.left result.0) }
+    ensures reads { Takes (command_of (map string_bytes words.now.items)) result.1 (M.left machine)
+        (M.left result.0) }
     ensures most { TakesAtMost (longest_script + 1) (M.left machine) (M.left result.0) }
     ensures grows { IsAddedTo (shown_of (M.told machine)) (shown_of (M.told result.0)) }
     ensures fixed { M.fixed result.0 ≡ M.fixed machine }

@@ -28,8 +28,10 @@ fn create(
     name: &Name,
     columns: &ColumnDefs,
 ) -> Result<(), StepFault>
-    ensures done { OnOk result (spec.create name.now (form.sole_column columns.now) tables.old ≡ Ok ([], tables.new)) }
-    ensures refused { (r : Refusal) → result ≡ Err (step.Refused r) → spec.create name.now (form.sole_column columns.now) tables.old ≡ Err r }
+    ensures done { OnOk result (spec.create name.now (form.sole_column columns.now) tables.old
+        ≡ Ok ([], tables.new)) }
+    ensures refused { (r : Refusal) → result ≡ Err (step.Refused r)
+        → spec.create name.now (form.sole_column columns.now) tables.old ≡ Err r }
     ensures fault { (f : DeviceFault) → result ≡ Err (step.Device f) → f ≡ device.NoMemory }
 {
     let Some(column) = sole_column(columns) else {
@@ -54,8 +56,10 @@ fn insert(
     columns: &Names,
     source: &RowSource,
 ) -> Result<(), StepFault>
-    ensures done { OnOk result (spec.insert name.now (form.inserted_numbers columns.now source.now) tables.old ≡ Ok ([], tables.new)) }
-    ensures refused { (r : Refusal) → result ≡ Err (step.Refused r) → spec.insert name.now (form.inserted_numbers columns.now source.now) tables.old ≡ Err r }
+    ensures done { OnOk result (spec.insert name.now (form.inserted_numbers columns.now source.now)
+        tables.old ≡ Ok ([], tables.new)) }
+    ensures refused { (r : Refusal) → result ≡ Err (step.Refused r)
+        → spec.insert name.now (form.inserted_numbers columns.now source.now) tables.old ≡ Err r }
     ensures fault { (f : DeviceFault) → result ≡ Err (step.Device f) → f ≡ device.NoMemory }
 {
     let Some(numbers) = inserted_numbers(alloc, columns, source)? else {
@@ -77,9 +81,14 @@ fn show<M: Shows>(
     machine: &mut M,
     name: &Name,
 ) -> Result<(), StepFault>
-    ensures done { OnOk result ((text : List ℕ) × (spec.shown name.now tables.now ≡ Ok (text, tables.now)) × (M.told machine.new ≡ with_shown text (M.told machine.old))) }
-    ensures refused { (r : Refusal) → result ≡ Err (step.Refused r) → (spec.shown name.now tables.now ≡ Err r) × (M.told machine.new ≡ M.told machine.old) }
-    ensures fault { (f : DeviceFault) → result ≡ Err (step.Device f) → ShowsFront (text_of (spec.shown name.now tables.now)) (M.told machine.old) (M.told machine.new) }
+    ensures done { OnOk result ((text : List ℕ)
+        × (spec.shown name.now tables.now ≡ Ok (text, tables.now))
+        × (M.told machine.new ≡ with_shown text (M.told machine.old))) }
+    ensures refused { (r : Refusal) → result ≡ Err (step.Refused r)
+        → (spec.shown name.now tables.now ≡ Err r) × (M.told machine.new ≡ M.told machine.old) }
+    ensures fault { (f : DeviceFault) → result ≡ Err (step.Device f)
+        → ShowsFront (text_of (spec.shown name.now tables.now)) (M.told machine.old)
+        (M.told machine.new) }
     ensures frame { Keeps M.left M.fixed machine.old machine.new }
     ensures cause { IsCausedStep result (M.faults machine.old) (M.faults machine.new) }
 {
@@ -96,9 +105,15 @@ fn select<M: Shows>(
     machine: &mut M,
     query: &Select,
 ) -> Result<(), StepFault>
-    ensures done { OnOk result ((text : List ℕ) × (spec.select (form.shown_table query.now) tables.now ≡ Ok (text, tables.now)) × (M.told machine.new ≡ with_shown text (M.told machine.old))) }
-    ensures refused { (r : Refusal) → result ≡ Err (step.Refused r) → (spec.select (form.shown_table query.now) tables.now ≡ Err r) × (M.told machine.new ≡ M.told machine.old) }
-    ensures fault { (f : DeviceFault) → result ≡ Err (step.Device f) → ShowsFront (text_of (spec.select (form.shown_table query.now) tables.now)) (M.told machine.old) (M.told machine.new) }
+    ensures done { OnOk result ((text : List ℕ)
+        × (spec.select (form.shown_table query.now) tables.now ≡ Ok (text, tables.now))
+        × (M.told machine.new ≡ with_shown text (M.told machine.old))) }
+    ensures refused { (r : Refusal) → result ≡ Err (step.Refused r)
+        → (spec.select (form.shown_table query.now) tables.now ≡ Err r)
+        × (M.told machine.new ≡ M.told machine.old) }
+    ensures fault { (f : DeviceFault) → result ≡ Err (step.Device f)
+        → ShowsFront (text_of (spec.select (form.shown_table query.now) tables.now))
+        (M.told machine.old) (M.told machine.new) }
     ensures frame { Keeps M.left M.fixed machine.old machine.new }
     ensures cause { IsCausedStep result (M.faults machine.old) (M.faults machine.new) }
 {
@@ -115,9 +130,15 @@ fn step_on_tables<M: Shows>(
     machine: &mut M,
     statement: &Statement,
 ) -> Result<(), StepFault>
-    ensures done { OnOk result ((text : List ℕ) × (spec.on_tables statement.now tables.old ≡ Ok (text, tables.new)) × (M.told machine.new ≡ with_shown text (M.told machine.old))) }
-    ensures refused { (r : Refusal) → result ≡ Err (step.Refused r) → (spec.on_tables statement.now tables.old ≡ Err r) × (M.told machine.new ≡ M.told machine.old) }
-    ensures fault { (f : DeviceFault) → result ≡ Err (step.Device f) → ShowsFront (text_of (spec.on_tables statement.now tables.old)) (M.told machine.old) (M.told machine.new) }
+    ensures done { OnOk result ((text : List ℕ)
+        × (spec.on_tables statement.now tables.old ≡ Ok (text, tables.new))
+        × (M.told machine.new ≡ with_shown text (M.told machine.old))) }
+    ensures refused { (r : Refusal) → result ≡ Err (step.Refused r)
+        → (spec.on_tables statement.now tables.old ≡ Err r)
+        × (M.told machine.new ≡ M.told machine.old) }
+    ensures fault { (f : DeviceFault) → result ≡ Err (step.Device f)
+        → ShowsFront (text_of (spec.on_tables statement.now tables.old)) (M.told machine.old)
+        (M.told machine.new) }
     ensures frame { Keeps M.left M.fixed machine.old machine.new }
     ensures cause { IsCausedStep result (M.faults machine.old) (M.faults machine.new) }
 {
@@ -143,9 +164,13 @@ fn show_expressions<M: Shows>(
     machine: &mut M,
     statement: &Statement,
 ) -> Result<(), StepFault>
-    ensures done { OnOk result ((text : List ℕ) × (expressions_text statement.now ≡ Ok text) × (M.told machine.new ≡ with_shown text (M.told machine.old))) }
-    ensures refused { (r : Refusal) → result ≡ Err (step.Refused r) → (expressions_text statement.now ≡ Err r) × (M.told machine.new ≡ M.told machine.old) }
-    ensures fault { (f : DeviceFault) → result ≡ Err (step.Device f) → ShowsFront (text_if (expressions_text statement.now)) (M.told machine.old) (M.told machine.new) }
+    ensures done { OnOk result ((text : List ℕ) × (expressions_text statement.now ≡ Ok text)
+        × (M.told machine.new ≡ with_shown text (M.told machine.old))) }
+    ensures refused { (r : Refusal) → result ≡ Err (step.Refused r)
+        → (expressions_text statement.now ≡ Err r) × (M.told machine.new ≡ M.told machine.old) }
+    ensures fault { (f : DeviceFault) → result ≡ Err (step.Device f)
+        → ShowsFront (text_if (expressions_text statement.now)) (M.told machine.old)
+        (M.told machine.new) }
     ensures frame { Keeps M.left M.fixed machine.old machine.new }
     ensures cause { IsCausedStep result (M.faults machine.old) (M.faults machine.new) }
 {
@@ -164,9 +189,14 @@ pub fn step<M: Shows>(
     machine: &mut M,
     statement: &Statement,
 ) -> Result<(), StepFault>
-    ensures done { OnOk result ((text : List ℕ) × (effect statement.now tables.old ≡ Ok (text, tables.new)) × (M.told machine.new ≡ with_shown text (M.told machine.old))) }
-    ensures refused { (r : Refusal) → result ≡ Err (step.Refused r) → (effect statement.now tables.old ≡ Err r) × (M.told machine.new ≡ M.told machine.old) }
-    ensures fault { (f : DeviceFault) → result ≡ Err (step.Device f) → ShowsFront (text_of (effect statement.now tables.old)) (M.told machine.old) (M.told machine.new) }
+    ensures done { OnOk result ((text : List ℕ)
+        × (effect statement.now tables.old ≡ Ok (text, tables.new))
+        × (M.told machine.new ≡ with_shown text (M.told machine.old))) }
+    ensures refused { (r : Refusal) → result ≡ Err (step.Refused r)
+        → (effect statement.now tables.old ≡ Err r) × (M.told machine.new ≡ M.told machine.old) }
+    ensures fault { (f : DeviceFault) → result ≡ Err (step.Device f)
+        → ShowsFront (text_of (effect statement.now tables.old)) (M.told machine.old)
+        (M.told machine.new) }
     ensures frame { Keeps M.left M.fixed machine.old machine.new }
     ensures cause { IsCausedStep result (M.faults machine.old) (M.faults machine.new) }
 {

@@ -73,7 +73,8 @@ impl Tables {
 
     /// Makes a table without rows. A refusal leaves the tables as before.
     pub fn create(&mut self, name: Name, column: Name) -> Result<(), NoMemory>
-        ensures ok { OnOk result (self.new ≡ self.old ++ (record { name = name; column = column; numbers = [] } ∷ [])) }
+        ensures ok { OnOk result (self.new ≡ self.old
+            ++ (record { name = name; column = column; numbers = [] } ∷ [])) }
     {
         let rows = Items::new(self.alloc);
         self.tables.push(Table { name, column, rows })?;
@@ -82,7 +83,9 @@ impl Tables {
 
     /// Adds rows to the table of a name. Answers whether there is one.
     pub fn insert(&mut self, name: &Name, numbers: Numbers) -> Result<bool, NoMemory>
-        ensures there { IfOk result (λ there. MatchBool there (with_rows name.now numbers self.old ≡ Some self.new) (with_rows name.now numbers self.old ≡ None)) }
+        ensures there { IfOk result (λ there. MatchBool there
+            (with_rows name.now numbers self.old ≡ Some self.new)
+            (with_rows name.now numbers self.old ≡ None)) }
         ensures kept { IfOk result (λ there. there ≡ false → self.new ≡ self.old) }
     {
         let Some(at) = place(&self.tables, name) else {
@@ -96,7 +99,8 @@ impl Tables {
     pub fn rows(&self, name: &Name) -> Option<&[Numbers]>
         ensures { MatchOption result
             (find (is_named name.now) self.now ≡ None)
-            (λ rows. (t : value.Table) × (find (is_named name.now) self.now ≡ Some t) × (t.numbers ≡ flat_map (λ piece. piece) rows.now)) }
+            (λ rows. (t : value.Table) × (find (is_named name.now) self.now ≡ Some t)
+            × (t.numbers ≡ flat_map (λ piece. piece) rows.now)) }
     {
         let at = place(&self.tables, name)?;
         Some(self.tables[at].rows.as_slice())

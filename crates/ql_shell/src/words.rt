@@ -33,7 +33,8 @@ fn is_option(word: &[u8]) -> bool
 
 /// Adds words, each behind a space.
 fn add_words(words: &[String], text: &mut Bytes) -> Result<(), NoMemory>
-    ensures { OnOk result (text.new ≡ text.old ++ flat_map (λ word. 32 ∷ word) (map string_bytes words.now)) }
+    ensures { OnOk result (text.new ≡ text.old ++ flat_map (λ word. 32 ∷ word)
+        (map string_bytes words.now)) }
 {
     for word in words {
         text.push(b' ')?;
