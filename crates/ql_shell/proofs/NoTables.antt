@@ -20,7 +20,7 @@ use Rattle.ql_rel.specs.Answers.{Answer, refused, then_with}
 use Rattle.ql_rel.specs.Plans.{add_table, add_source, add_sets, is_metadata, set_name}
 use Rattle.ql_rel.specs.PlanTypes.{AreTyped, types_if, row_types}
 use Rattle.ql_rel.specs.Rows.{no_tables}
-use Rattle.ql_rel.specs.Scopes.{Slot}
+use Rattle.ql_rel.specs.declared.scope.Slot.{Slot}
 
 no_named : (alias : Option (List ℕ)) (name : List ℕ) (metadata : Bool) (next : List Slot → Answer (List Slot))
     → types_if (then_with (if metadata then refused LATER else add_table [] (set_name alias name) name None) next) ≡ []
