@@ -1,45 +1,9 @@
 //! What an expression prints, with brackets that show how it is read.
 use ql_edge::{Boxed, Bytes, NoMemory};
-use ql_print::print_expr;
+use ql_print::{operator_bytes, prefix_bytes, print_expr};
 use ql_syntax::{Expr, Exprs, Links};
-use ql_value::{BinOp, UnOp, UnOps};
+use ql_value::UnOps;
 use std::alloc::Global;
-
-/// An operator between two parts.
-fn bin_bytes(op: BinOp) -> &'static [u8] {
-    match op {
-        BinOp::Mul => b"*",
-        BinOp::Div => b"/",
-        BinOp::Rem => b"%",
-        BinOp::Shl => b"<<",
-        BinOp::Shr => b">>",
-        BinOp::And => b"&",
-        BinOp::AndNot => b"&^",
-        BinOp::Add => b"+",
-        BinOp::Sub => b"-",
-        BinOp::Or => b"|",
-        BinOp::Xor => b"^",
-        BinOp::Eq => b"==",
-        BinOp::Ne => b"!=",
-        BinOp::Lt => b"<",
-        BinOp::Le => b"<=",
-        BinOp::Gt => b">",
-        BinOp::Ge => b">=",
-        BinOp::Both => b"&&",
-        BinOp::Either => b"||",
-        BinOp::Like => b"LIKE",
-    }
-}
-
-/// An operator before a part.
-fn un_byte(op: UnOp) -> u8 {
-    match op {
-        UnOp::Plus => b'+',
-        UnOp::Minus => b'-',
-        UnOp::Not => b'!',
-        UnOp::Flip => b'^',
-    }
-}
 
 /// Adds operators before a part, with blanks between them.
 fn add_ops(ops: &UnOps, out: &mut Bytes) -> Result<(), NoMemory> {
@@ -47,7 +11,7 @@ fn add_ops(ops: &UnOps, out: &mut Bytes) -> Result<(), NoMemory> {
         if i > 0 {
             out.push(b' ')?;
         }
-        out.push(un_byte(*op))?;
+        out.extend(prefix_bytes(*op))?;
     }
     Ok(())
 }
@@ -141,7 +105,7 @@ pub fn add_shape(alloc: Global, expr: &Expr, out: &mut Bytes) -> Result<(), NoMe
 fn add_links(alloc: Global, links: &Links, out: &mut Bytes) -> Result<(), NoMemory> {
     for link in links.as_slice() {
         out.push(b' ')?;
-        out.extend(bin_bytes(link.op))?;
+        out.extend(operator_bytes(link.op))?;
         out.push(b' ')?;
         add_shape(alloc, &link.part, out)?;
     }
