@@ -1,4 +1,5 @@
 pub mod Behind
+pub mod ByBytes
 pub mod Entries
 pub mod Pieces
 pub mod Puts

@@ -1,5 +1,6 @@
 -- Pieces of bytes that are written together, and what the bytes are afterwards.
-use Rattle.std.specs.Prelude.{ℕ, ◌+◌, ◌^◌, ◌≤◌, max, List, [], ◌∷◌, ◌++◌, length, take, drop}
+use Rattle.std.specs.Prelude.{◌≡◌, ℕ, ◌+◌, ◌-◌, ◌^◌, ◌<◌, ◌≤◌, max, Bool, ◌&&◌, nat_le, nat_lt, if◌then◌else◌, List, [], ◌∷◌, ◌++◌, length, take, drop, get_or, Option, Some, None}
+use Rattle.std.specs.Option.{unwrap_or}
 use Rattle.lldb_base.specs.declared.batch.Piece.{Piece}
 
 -- the pieces, and the size that the bytes have afterwards
@@ -61,3 +62,17 @@ pub record CanTake (floor shift size : ℕ) (batch : Edits) : Type 0 where
   pub gapless : LeaveNoGap floor shift size batch.pieces
   pub floor_of_size : floor ≤ shift + batch.size
   pub covered : shift + batch.size ≤ reach shift size batch.pieces
+
+-- whether a piece covers a place
+abbrev pub covers : ℕ → ℕ → Piece → Bool
+covers shift i p = nat_le (shift + p.place) i && nat_lt i (shift + p.place + length p.bytes)
+
+-- the byte that the pieces have for a place, where one of them covers it
+abbrev pub byte_at : ℕ → ℕ → List Piece → Option ℕ
+byte_at shift i [] = None
+byte_at shift i (p ∷ ps) = if covers shift i p then Some (get_or p.bytes (i - (shift + p.place)) 0) else byte_at shift i ps
+
+-- after a batch the size is the one that it names, and each byte is that of the piece that covers its place, else the old one
+pub record BatchLaws : Type 0 where
+  pub size : (floor shift : ℕ) (batch : Edits) (bytes : List ℕ) → CanTake floor shift (length bytes) batch → length (applied shift batch bytes) ≡ shift + batch.size
+  pub bytes : (floor shift : ℕ) (batch : Edits) (bytes : List ℕ) (i : ℕ) → IsBatch batch → CanTake floor shift (length bytes) batch → i < shift + batch.size → get_or (applied shift batch bytes) i 0 ≡ unwrap_or (byte_at shift i batch.pieces) (get_or bytes i 0)
