@@ -16,7 +16,7 @@ use std::{env, io};
 fn copies(alloc: Global, statements: &Statements) -> Result<Exprs, NoMemory> {
     let mut copies = Exprs::new(alloc);
     if let Some(Statement::Query(query)) = statements.as_slice().first() {
-        for field in query.fields.as_slice() {
+        for field in query.get().fields.as_slice() {
             copies.push(copy_expr(alloc, &field.expr)?)?;
         }
     }
@@ -36,7 +36,7 @@ fn count_copies(alloc: Global, asked: bool, statements: &Statements) -> Result<u
 fn asks_for_copies(rt: &HostRuntime) -> io::Result<bool> {
     let mut asked = false;
     for word in env::args(rt)?.skip(1) {
-        asked = asked || word.as_bytes() == b"copy";
+        asked = asked || word.as_bytes() == b"copy".as_slice();
     }
     Ok(asked)
 }

@@ -29,7 +29,7 @@ fn add_statements(statements: &Statements, out: &mut Bytes) -> Result<(), NoMemo
 /// Adds the shapes of the fields that a statement shows.
 fn add_fields(alloc: Global, statement: &Statement, out: &mut Bytes) -> Result<(), NoMemory> {
     if let Statement::Query(query) = statement {
-        for field in query.fields.as_slice() {
+        for field in query.get().fields.as_slice() {
             out.extend(b" | ")?;
             add_shape(alloc, &field.expr, out)?;
         }
