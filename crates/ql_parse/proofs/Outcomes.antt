@@ -25,18 +25,18 @@ a_token : {n : ℕ} (test : Lexeme → Bool) → Total n (token test)
 a_token test [] = stops (r.other_token refl)
 a_token {n = n} test (t ∷ ts) = by (test t) refl
   where
-  by : (b : Bool) → test t ≡ b → Ends n (token test) (t ∷ ts)
-  by true e = reads (r.takes e)
-  by false e = stops (r.other_token e)
+    by : (b : Bool) → test t ≡ b → Ends n (token test) (t ∷ ts)
+    by true e = reads (r.takes e)
+    by false e = stops (r.other_token e)
 
 a_token_before : {n : ℕ} (test next : Lexeme → Bool) → Total n (before test next)
 a_token_before test next [] = stops (r.not_before refl)
 a_token_before {n = n} test next (t ∷ ts) = by (test t) (sees next ts) refl refl
   where
-  by : (b c : Bool) → test t ≡ b → sees next ts ≡ c → Ends n (before test next) (t ∷ ts)
-  by true true e f = reads (r.takes_before e f)
-  by true false e f = stops (r.not_before (rw (e, f) refl))
-  by false c e f = stops (r.not_before (rw e refl))
+    by : (b c : Bool) → test t ≡ b → sees next ts ≡ c → Ends n (before test next) (t ∷ ts)
+    by true true e f = reads (r.takes_before e f)
+    by true false e f = stops (r.not_before (rw (e, f) refl))
+    by false c e f = stops (r.not_before (rw e refl))
 
 no_token : {n : ℕ} → Total n nothing
 no_token ts = reads r.takes_nothing
@@ -48,42 +48,44 @@ the_end (t ∷ ts) = stops r.not_at_end
 in_turn : {n : ℕ} {x y : Rule} → Total n x → Total n y → Total n (x then y)
 in_turn {n = n} {x = x} {y = y} f g ts = by (f ts)
   where
-  behind : {a : Parse} {mid : List Lexeme} → Reads n x ts a mid → Ends n y mid → Ends n (x then y) ts
-  behind h (reads k) = reads (r.both h k)
-  behind h (stops k) = stops (r.in_second h k)
-  by : Ends n x ts → Ends n (x then y) ts
-  by (reads {rest = mid} h) = behind h (g mid)
-  by (stops i) = stops (r.in_first i)
+    behind : {a : Parse} {mid : List Lexeme} → Reads n x ts a mid → Ends n y mid → Ends n (x then y) ts
+    behind h (reads k) = reads (r.both h k)
+    behind h (stops k) = stops (r.in_second h k)
+
+    by : Ends n x ts → Ends n (x then y) ts
+    by (reads {rest = mid} h) = behind h (g mid)
+    by (stops i) = stops (r.in_first i)
 
 one_of : {n : ℕ} {x y : Rule} → Total n x → Total n y → Total n (x or y)
 one_of {n = n} {x = x} {y = y} f g ts = by (enters x ts) (enters y ts) refl refl (f ts) (g ts)
   where
-  by : (b c : Bool) → enters x ts ≡ b → enters y ts ≡ c → Ends n x ts → Ends n y ts → Ends n (x or y) ts
-  by true c e d (reads h) _ = reads (r.first e h)
-  by true c e d (stops i) _ = stops (r.in_left e i)
-  by false true e d _ (reads h) = reads (r.second e d h)
-  by false true e d _ (stops i) = stops (r.in_right e d i)
-  by false false e d _ _ = stops (r.neither e d)
+    by : (b c : Bool) → enters x ts ≡ b → enters y ts ≡ c → Ends n x ts → Ends n y ts → Ends n (x or y) ts
+    by true c e d (reads h) _ = reads (r.first e h)
+    by true c e d (stops i) _ = stops (r.in_left e i)
+    by false true e d _ (reads h) = reads (r.second e d h)
+    by false true e d _ (stops i) = stops (r.in_right e d i)
+    by false false e d _ _ = stops (r.neither e d)
 
 perhaps : {n : ℕ} {x : Rule} → Total n x → Total n (maybe x)
 perhaps {n = n} {x = x} f ts = by (enters x ts) refl (f ts)
   where
-  by : (b : Bool) → enters x ts ≡ b → Ends n x ts → Ends n (maybe x) ts
-  by true e (reads h) = reads (r.entered e h)
-  by true e (stops i) = stops (r.in_part e i)
-  by false e _ = reads (r.left_out e)
+    by : (b : Bool) → enters x ts ≡ b → Ends n x ts → Ends n (maybe x) ts
+    by true e (reads h) = reads (r.entered e h)
+    by true e (stops i) = stops (r.in_part e i)
+    by false e _ = reads (r.left_out e)
 
 -- one turn, where further turns over fewer tokens end
 one_turn : {n : ℕ} {x : Rule} → Total n x → Takes n x → (ts : List Lexeme) → ((mid : List Lexeme) → suc (length mid) ≤ length ts → Ends n (many x) mid) → Ends n (many x) ts
 one_turn {n = n} {x = x} f g ts next = by (enters x ts) refl (f ts)
   where
-  behind : {a : Parse} {mid : List Lexeme} → enters x ts ≡ true → Reads n x ts a mid → Ends n (many x) mid → Ends n (many x) ts
-  behind e h (reads k) = reads (r.goes_on e h k)
-  behind e h (stops i) = stops (r.in_later e h i)
-  by : (b : Bool) → enters x ts ≡ b → Ends n x ts → Ends n (many x) ts
-  by false e _ = reads (r.ended e)
-  by true e (stops i) = stops (r.in_one e i)
-  by true e (reads {a = a} {rest = mid} h) = behind e h (next mid (g ts mid a h))
+    behind : {a : Parse} {mid : List Lexeme} → enters x ts ≡ true → Reads n x ts a mid → Ends n (many x) mid → Ends n (many x) ts
+    behind e h (reads k) = reads (r.goes_on e h k)
+    behind e h (stops i) = stops (r.in_later e h i)
+
+    by : (b : Bool) → enters x ts ≡ b → Ends n x ts → Ends n (many x) ts
+    by false e _ = reads (r.ended e)
+    by true e (stops i) = stops (r.in_one e i)
+    by true e (reads {a = a} {rest = mid} h) = behind e h (next mid (g ts mid a h))
 
 -- by as many turns as there are tokens
 turns : {n : ℕ} {x : Rule} → Total n x → Takes n x → (most : ℕ) (ts : List Lexeme) → length ts ≤ most → Ends n (many x) ts
@@ -98,14 +100,15 @@ one_member : {n : ℕ} {x : Rule} → Total n x → (ts : List Lexeme) → ((mid
 one_member f [] next = reads (r.no_comma refl)
 one_member {n = n} {x = x} f (t ∷ ts) next = by (is_comma t) (enters x ts) refl refl (f ts)
   where
-  behind : {a : Parse} {mid : List Lexeme} → is_comma t ≡ true → enters x ts ≡ true → Reads n x ts a mid → Ends n (further x) mid → Ends n (further x) (t ∷ ts)
-  behind e d h (reads k) = reads (r.member e d h k)
-  behind e d h (stops i) = stops (r.in_further e d h i)
-  by : (b c : Bool) → is_comma t ≡ b → enters x ts ≡ c → Ends n x ts → Ends n (further x) (t ∷ ts)
-  by false c e d _ = reads (r.no_comma e)
-  by true false e d _ = reads (r.trailing e d)
-  by true true e d (stops i) = stops (r.in_member e d i)
-  by true true e d (reads {rest = mid} h) = behind e d h (next mid (omega (arith, shorter h)))
+    behind : {a : Parse} {mid : List Lexeme} → is_comma t ≡ true → enters x ts ≡ true → Reads n x ts a mid → Ends n (further x) mid → Ends n (further x) (t ∷ ts)
+    behind e d h (reads k) = reads (r.member e d h k)
+    behind e d h (stops i) = stops (r.in_further e d h i)
+
+    by : (b c : Bool) → is_comma t ≡ b → enters x ts ≡ c → Ends n x ts → Ends n (further x) (t ∷ ts)
+    by false c e d _ = reads (r.no_comma e)
+    by true false e d _ = reads (r.trailing e d)
+    by true true e d (stops i) = stops (r.in_member e d i)
+    by true true e d (reads {rest = mid} h) = behind e d h (next mid (omega (arith, shorter h)))
 
 members : {n : ℕ} {x : Rule} → Total n x → (most : ℕ) (ts : List Lexeme) → length ts ≤ most → Ends n (further x) ts
 members f zero ts within = one_member f ts (λ mid k. absurd (omega (arith, k, within)))
@@ -119,32 +122,34 @@ no_room : (x : Rule) → Total zero (bracketed x)
 no_room x [] = stops (r.not_open refl)
 no_room x (t ∷ ts) = by (is_open t) refl
   where
-  by : (b : Bool) → is_open t ≡ b → Ends zero (bracketed x) (t ∷ ts)
-  by true e = stops (r.no_room e)
-  by false e = stops (r.not_open e)
+    by : (b : Bool) → is_open t ≡ b → Ends zero (bracketed x) (t ∷ ts)
+    by true e = stops (r.no_room e)
+    by false e = stops (r.not_open e)
 
 in_brackets : {n : ℕ} {x : Rule} → Total n x → Total (suc n) (bracketed x)
 in_brackets f [] = stops (r.not_open refl)
 in_brackets {n = n} {x = x} f (t ∷ ts) = by (is_open t) refl (f ts)
   where
-  closed : {a : Parse} {c : Lexeme} {rest : List Lexeme} → is_open t ≡ true → Reads n x ts a (c ∷ rest) → (b : Bool) → is_close c ≡ b → Ends (suc n) (bracketed x) (t ∷ ts)
-  closed o h true e = reads (r.enclosed o h e)
-  closed o h false e = stops (r.not_closed o h e)
-  behind : {a : Parse} (rest : List Lexeme) → is_open t ≡ true → Reads n x ts a rest → Ends (suc n) (bracketed x) (t ∷ ts)
-  behind [] o h = stops (r.not_closed o h refl)
-  behind (c ∷ rest) o h = closed o h (is_close c) refl
-  by : (b : Bool) → is_open t ≡ b → Ends n x ts → Ends (suc n) (bracketed x) (t ∷ ts)
-  by false e _ = stops (r.not_open e)
-  by true e (stops i) = stops (r.within e i)
-  by true e (reads {rest = rest} h) = behind rest e h
+    closed : {a : Parse} {c : Lexeme} {rest : List Lexeme} → is_open t ≡ true → Reads n x ts a (c ∷ rest) → (b : Bool) → is_close c ≡ b → Ends (suc n) (bracketed x) (t ∷ ts)
+    closed o h true e = reads (r.enclosed o h e)
+    closed o h false e = stops (r.not_closed o h e)
+
+    behind : {a : Parse} (rest : List Lexeme) → is_open t ≡ true → Reads n x ts a rest → Ends (suc n) (bracketed x) (t ∷ ts)
+    behind [] o h = stops (r.not_closed o h refl)
+    behind (c ∷ rest) o h = closed o h (is_close c) refl
+
+    by : (b : Bool) → is_open t ≡ b → Ends n x ts → Ends (suc n) (bracketed x) (t ∷ ts)
+    by false e _ = stops (r.not_open e)
+    by true e (stops i) = stops (r.within e i)
+    by true e (reads {rest = rest} h) = behind rest e h
 
 -- what a production says
 by_production : {n : ℕ} (p : Production) → Total n (rule_of p) → Total n (the p)
 by_production {n = n} p f ts = by (f ts)
   where
-  by : Ends n (rule_of p) ts → Ends n (the p) ts
-  by (reads h) = reads (r.by_rule h)
-  by (stops i) = stops (r.by_its_rule i)
+    by : Ends n (rule_of p) ts → Ends n (the p) ts
+    by (reads h) = reads (r.by_rule h)
+    by (stops i) = stops (r.by_its_rule i)
 
 takes_one : {n : ℕ} (test : Lexeme → Bool) → Takes n (token test)
 takes_one test ts rest a (r.takes e) = omega arith
@@ -211,8 +216,8 @@ a_subselect n k = in_turn k.a_select (perhaps (a_mark m.Semicolon))
 a_predicate : (n : ℕ) → Inner n → Total n (the predicate)
 a_predicate n i = by_production predicate (
     one_of (in_turn (perhaps (a_word w.Not)) (
-        one_of (in_turn (a_word w.In) (round n i (λ room k. one_of (a_list k.an_expr) (a_subselect room k))))
-        (in_turn (a_word w.Between) (in_turn (a_sum n i) (in_turn (a_word w.And) (a_sum n i))))))
+    one_of (in_turn (a_word w.In) (round n i (λ room k. one_of (a_list k.an_expr) (a_subselect room k))))
+    (in_turn (a_word w.Between) (in_turn (a_sum n i) (in_turn (a_word w.And) (a_sum n i))))))
     (in_turn (a_word w.Is) (in_turn (perhaps (a_word w.Not)) (a_word w.Null))))
 
 a_factor : (n : ℕ) → Inner n → Total n (the factor)
@@ -281,7 +286,7 @@ a_creation : (n : ℕ) → Total n (the creation)
 a_creation n = by_production creation (in_turn (a_word w.Create) (one_of
     (in_turn (a_word w.Table) (in_turn a_quiet_not (in_turn a_name (around (λ room. a_list (a_column room)) n))))
     (in_turn (perhaps (a_word w.Unique)) (in_turn (a_word w.Index) (in_turn a_quiet_not (in_turn a_name (in_turn (a_word w.On) (in_turn a_name
-        (around (λ room. one_of (in_turn (a_token_before is_id is_open) (around (λ _. no_token) room)) a_name) n)))))))))
+    (around (λ room. one_of (in_turn (a_token_before is_id is_open) (around (λ _. no_token) room)) a_name) n)))))))))
 
 a_removal : (n : ℕ) → Total n (the removal)
 a_removal n = by_production removal (in_turn (a_word w.Drop) (one_of

@@ -172,10 +172,10 @@ one_reason ts i j h k = let e = one_stop h.stops k.stops in cc
 some_outcome : (ts : List Lexeme) → Outcome ts
 some_outcome ts = by (a_script limit ts)
   where
-  by : Ends limit script ts → Outcome ts
-  by (reads {a = a} h) = read (statements_of a) (record { parse = a; reads = rw (script_ends h) at h; tree = refl })
-  by (stops {s = r.unexpected here} h) = outcome.unexpected (length ts - length here) (record { here = here; stops = h; place = omega (arith, stop_within h) })
-  by (stops {s = r.too_nested here} h) = nested (length ts - length here) (record { here = here; stops = h; place = omega (arith, stop_within h) })
+    by : Ends limit script ts → Outcome ts
+    by (reads {a = a} h) = read (statements_of a) (record { parse = a; reads = rw (script_ends h) at h; tree = refl })
+    by (stops {s = r.unexpected here} h) = outcome.unexpected (length ts - length here) (record { here = here; stops = h; place = omega (arith, stop_within h) })
+    by (stops {s = r.too_nested here} h) = nested (length ts - length here) (record { here = here; stops = h; place = omega (arith, stop_within h) })
 
 pub script_laws : ScriptLaws
 script_laws = record {
