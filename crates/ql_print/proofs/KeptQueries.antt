@@ -5,7 +5,7 @@ use Rattle.ql_lex.specs.declared.marks.Mark.TheVariants as m
 use Rattle.ql_lex.specs.declared.token.TokenKind.TheVariants as kind
 use Rattle.ql_lex.specs.declared.words.Word.{Word}
 use Rattle.ql_lex.specs.declared.words.Word.TheVariants as w
-use Rattle.ql_syntax.specs.Ink.{space, keyword, name}
+use Rattle.ql_syntax.specs.Ink.{space, keyword}
 use Rattle.ql_syntax.specs.Lexemes.{Lexeme, is_word}
 use Rattle.ql_syntax.specs.Printing.{Inks, behind, word_of_side, ink_of_alias, ink_of_fields, ink_of_sets, ink_of_join, ink_of_groups, ink_of_direction, ink_of_keys, ink_of_distinct, ink_of_expr, ink_of_select, ink_of_field, ink_of_source, ink_of_set, ink_of_one_join}
 use Rattle.ql_syntax.specs.Rules.{Rule, ◌then◌, ◌or◌, the, maybe, further, list, word, mark, expr, ref, select, set}
