@@ -41,3 +41,8 @@ pub mod KeptParts
 pub mod MadeStatements
 pub mod PlainAgain
 pub mod PlainStatements
+pub mod KeptTokens
+pub mod KeptLevels
+pub mod KeptQueries
+pub mod KeptStatements
+pub mod KeptScripts

@@ -147,7 +147,7 @@ statement_sound (f.by_rule (f.second (f.second (f.second (f.second (f.second (f.
 statement_sound (f.by_rule (f.second (f.second (f.second (f.second (f.second (f.second (f.second (f.second (f.second (f.second h))))))))))) = deletion_sound h
 
 -- the printed statements are sound
-abbrev Sound : Statement → Type 0
+abbrev pub Sound : Statement → Type 0
 Sound s = IsSound (ink_of_statement s)
 
 later_sound : {n : ℕ} {a : Parse} → Fits n (many (mark m.Semicolon then maybe (the statement))) a → AllByRecursion Sound (later_of a)
@@ -155,7 +155,7 @@ later_sound f.ended = tt
 later_sound (f.goes_on (f.both h f.left_out) k) = later_sound k
 later_sound (f.goes_on (f.both h (f.entered i)) k) = (statement_sound i, later_sound k)
 
-script_sound : {n : ℕ} {a : Parse} → Fits n rule.script a → AllByRecursion Sound (statements_of a)
+pub script_sound : {n : ℕ} {a : Parse} → Fits n rule.script a → AllByRecursion Sound (statements_of a)
 script_sound (f.both f.left_out (f.both h k)) = later_sound h
 script_sound (f.both (f.entered i) (f.both h k)) = (statement_sound i, later_sound h)
 

@@ -7,6 +7,7 @@ ghost use Rattle.ql_syntax.specs.Ink as spec;
 ghost use Rattle.ql_syntax.specs.Ink.{bracketed, keyword, listed, small, space, text_of, Grows};
 ghost use Rattle.ql_syntax.specs.Printing.{behind, word_of_kind};
 ghost use Rattle.ql_syntax.specs.ReadsBack.{PlainLaws, ReadBackLaws};
+ghost use Rattle.ql_syntax.specs.SameTokens.{TokenLaws};
 ghost use Rattle.ql_syntax.specs.StoredParts.{ColumnsReadBack, ItemsReadBack, MadeReadBack, PartsReadBack};
 ghost use Rattle.ql_syntax.specs.StatementPrinting.{ink_of_assign, ink_of_column, ink_of_if_exists, ink_of_if_not_exists, ink_of_item, ink_of_names, ink_of_option, ink_of_row, ink_of_rows, ink_of_rule, ink_of_statement, ink_of_unique};
 
@@ -469,6 +470,10 @@ pub fn print_statement(statement: &Statement, out: &mut Bytes) -> Result<(), NoM
 
     // What is read back prints the same text, and is read back as itself.
     ensures same_text { PlainLaws }
+
+    // What the statements of a script print, with `; ` between them, has the tokens of its source,
+    // but for what printing leaves out, puts in and writes otherwise.
+    ensures same_tokens { TokenLaws }
 {
     let before = out.len();
     match add_statement(statement, out) {

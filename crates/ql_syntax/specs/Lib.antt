@@ -11,3 +11,4 @@ pub mod ReadsBack
 pub mod Values
 pub mod Typing
 pub mod StoredParts
+pub mod SameTokens

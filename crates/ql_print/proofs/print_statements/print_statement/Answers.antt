@@ -1,4 +1,5 @@
 use Rattle.ql_print.proofs.KeptParts.{parts_read_back}
+use Rattle.ql_print.proofs.KeptScripts.{token_laws}
 use Rattle.ql_print.proofs.MadeStatements.{made_read_back}
 use Rattle.ql_print.proofs.PlainStatements.{plain_laws}
 use Rattle.ql_print.proofs.ReadBack.{read_back_laws}
@@ -27,3 +28,9 @@ returns-in-Ok-clause-same_text c = plain_laws
 
 pub returns-in-Err-clause-same_text : goal.returns-in-Err-clause-same_text
 returns-in-Err-clause-same_text c = plain_laws
+
+pub returns-in-Ok-clause-same_tokens : goal.returns-in-Ok-clause-same_tokens
+returns-in-Ok-clause-same_tokens c = token_laws
+
+pub returns-in-Err-clause-same_tokens : goal.returns-in-Err-clause-same_tokens
+returns-in-Err-clause-same_tokens c = token_laws
