@@ -1,6 +1,6 @@
 -- Each kind of piece, from what the code knows of it.
 use Rattle.std.proofs.Common.{◌≡◌, ℕ, ◌<◌, ◌≤◌, true, false, List, [], ◌∷◌, ◌++◌, length, drop, sym, ◌∙◌}
-use Rattle.ql_edge.specs.declared.name.TheConstants.{NAME_LIMIT}
+use Rattle.ql_edge.specs.Names.{longest_name}
 use Rattle.ql_lex.specs.declared.bytes.Start.{Start}
 use Rattle.ql_lex.specs.declared.bytes.Start.TheVariants as s
 use Rattle.ql_lex.specs.declared.marks.Mark.{Mark}
@@ -18,10 +18,10 @@ use Rattle.ql_lex.specs.Pieces as piece
 use Rattle.ql_lex.specs.Pieces.{word_of, Cuts, Spoils}
 use Rattle.ql_lex.specs.Words.{Names}
 
-pub word_cut : (b : ℕ) (text word rest : List ℕ) (k : TokenKind) → word ≡ word_of b text → rest ≡ after is_in_word text → length word ≤ NAME_LIMIT → Names word k → Cuts s.Word b text (p.Token k) rest
+pub word_cut : (b : ℕ) (text word rest : List ℕ) (k : TokenKind) → word ≡ word_of b text → rest ≡ after is_in_word text → length word ≤ longest_name → Names word k → Cuts s.Word b text (p.Token k) rest
 word_cut b text word rest k e r l n = rw r (piece.word (rw e at l) (rw e at n))
 
-pub word_flaw : (b : ℕ) (text word : List ℕ) → word ≡ word_of b text → NAME_LIMIT < length word → Spoils s.Word b text flaw.BadLiteral
+pub word_flaw : (b : ℕ) (text word : List ℕ) → word ≡ word_of b text → longest_name < length word → Spoils s.Word b text flaw.BadLiteral
 word_flaw b text word e l = piece.long_word (rw e at l)
 
 pub number_cut : (b : ℕ) (text word rest : List ℕ) → word ≡ word_of b text → rest ≡ after is_in_word text → is_number word ≡ true → Cuts s.Number b text (p.Token kind.Number) rest

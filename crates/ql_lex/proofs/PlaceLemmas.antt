@@ -7,7 +7,7 @@ use Rattle.std.proofs.Math.Seq.{drop-append_seam, take-append_seam}
 use Rattle.std.proofs.Math.Numerals.{one-add}
 use Rattle.std.specs.Prelude.{All, slice_index, ◌==◌, ◌&&◌, ◌||◌}
 use Rattle.std.specs.List.{prefix_len, take_while, list_all}
-use Rattle.ql_edge.specs.declared.name.TheConstants.{NAME_LIMIT}
+use Rattle.ql_edge.specs.Names.{longest_name}
 use Rattle.ql_lex.specs.declared.bytes.Start.{Start}
 use Rattle.ql_lex.specs.declared.bytes.Start.TheVariants as s
 use Rattle.ql_lex.specs.declared.marks.Mark.{Mark}
@@ -72,12 +72,12 @@ word_letter b text e =
     letter_of (is_blank b) (is_letter b) (cond (is_digit b) s.Number (cond (b == 96) s.RawString (cond (b == 34) s.String (sign_start b text)))) e
     (no_word_else (is_digit b) (b == 96) (b == 34) (sign_start b text) (no_word_pair b text))
 
-word_is_name : (b : ℕ) (text : List ℕ) → is_letter b ≡ true → length (word_of b text) ≤ NAME_LIMIT → ((w : Word) → IsWord (word_of b text) w → ⊥) → IsName (word_of b text)
+word_is_name : (b : ℕ) (text : List ℕ) → is_letter b ≡ true → length (word_of b text) ≤ longest_name → ((w : Word) → IsWord (word_of b text) w → ⊥) → IsName (word_of b text)
 word_is_name b text l w n =
     let front = front_passes is_in_word text in
     record { some = omega arith; within = w; letter = l; letters = rw (l, front) refl; other = n }
 
-name_spelled : (b : ℕ) (text spelling : List ℕ) (k : TokenKind) → Names (word_of b text) k → spelling ≡ word_of b text → is_letter b ≡ true → length (word_of b text) ≤ NAME_LIMIT → IsSpelled k spelling
+name_spelled : (b : ℕ) (text spelling : List ℕ) (k : TokenKind) → Names (word_of b text) k → spelling ≡ word_of b text → is_letter b ≡ true → length (word_of b text) ≤ longest_name → IsSpelled k spelling
 name_spelled b text spelling k (keyword h) e l w = rw e h
 name_spelled b text spelling k (name n) e l w = rw e (word_is_name b text l w n)
 

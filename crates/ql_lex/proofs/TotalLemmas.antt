@@ -6,7 +6,7 @@ use Rattle.std.proofs.lemmas.Slice.Eq.{bytes_eq-Decides}
 use Rattle.std.specs.Prelude.{Option, Some, None, Result, Ok, Err, codes, ◌==◌}
 use Rattle.std.specs.Char.{to_ascii_lowercase}
 use Rattle.std.specs.Str.{bytes_eq}
-use Rattle.ql_edge.specs.declared.name.TheConstants.{NAME_LIMIT}
+use Rattle.ql_edge.specs.Names.{longest_name}
 use Rattle.ql_lex.specs.declared.bytes.Start.{Start}
 use Rattle.ql_lex.specs.declared.bytes.Start.TheVariants as s
 use Rattle.ql_lex.specs.declared.escapes.Code.{Code}
@@ -63,9 +63,9 @@ named run = by (spelled word_bytes (map to_ascii_lowercase run) (found (map to_a
     by (inr none) = (kind.Name, names.name (λ w e. none w (sym e)))
 
 a_word : (b : ℕ) (text : List ℕ) → Begins s.Word b text
-a_word b text = by (leb_tells (length (word_of b text)) NAME_LIMIT)
+a_word b text = by (leb_tells (length (word_of b text)) longest_name)
   where
-    by : ((leb (length (word_of b text)) NAME_LIMIT ≡ true) × (length (word_of b text) ≤ NAME_LIMIT)) ⊎ ((leb (length (word_of b text)) NAME_LIMIT ≡ false) × (NAME_LIMIT < length (word_of b text))) → Begins s.Word b text
+    by : ((leb (length (word_of b text)) longest_name ≡ true) × (length (word_of b text) ≤ longest_name)) ⊎ ((leb (length (word_of b text)) longest_name ≡ false) × (longest_name < length (word_of b text))) → Begins s.Word b text
     by (inl h) = cut (cuts.word h.1 (named (word_of b text)).1)
     by (inr h) = flawed (cuts.long_word h.1)
 

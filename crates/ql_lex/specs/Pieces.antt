@@ -1,7 +1,7 @@
 -- The pieces of a script: blanks, comments and tokens.
 use Rattle.std.specs.Prelude.{◌≡◌, ℕ, ◌<◌, ◌≤◌, true, false, List, [], ◌∷◌, ◌++◌, length, drop}
 use Rattle.std.specs.List.{take_while}
-use Rattle.ql_edge.specs.declared.name.TheConstants.{NAME_LIMIT}
+use Rattle.ql_edge.specs.Names.{longest_name}
 use Rattle.ql_lex.specs.declared.bytes.Start.{Start}
 use Rattle.ql_lex.specs.declared.bytes.Start.TheVariants as s
 use Rattle.ql_lex.specs.declared.marks.Mark.{Mark}
@@ -28,7 +28,7 @@ pub data Cuts : Start → ℕ → List ℕ → Piece → List ℕ → Type 0 whe
   line_comment : {b : ℕ} {text : List ℕ} → Cuts s.LineComment b text p.Gap (after is_in_line text)
   block_comment : {b : ℕ} {text rest : List ℕ} → ClosesComment (drop 1 text) rest → Cuts s.BlockComment b text p.Gap rest
   word : {b : ℕ} {text : List ℕ} {k : TokenKind} →
-      length (word_of b text) ≤ NAME_LIMIT → Names (word_of b text) k → Cuts s.Word b text (p.Token k) (after is_in_word text)
+      length (word_of b text) ≤ longest_name → Names (word_of b text) k → Cuts s.Word b text (p.Token k) (after is_in_word text)
   number : {b : ℕ} {text : List ℕ} →
       is_number (word_of b text) ≡ true → Cuts s.Number b text (p.Token kind.Number) (after is_in_word text)
   raw_string : {b q : ℕ} {text rest : List ℕ} → after is_in_raw text ≡ q ∷ rest → Cuts s.RawString b text (p.Token kind.Text) rest
@@ -39,7 +39,7 @@ pub data Cuts : Start → ℕ → List ℕ → Piece → List ℕ → Type 0 whe
 -- A text whose first byte is `b` begins with no piece, and why.
 pub data Spoils : Start → ℕ → List ℕ → Flaw → Type 0 where
   open_comment : {b : ℕ} {text : List ℕ} → NeverCloses (drop 1 text) → Spoils s.BlockComment b text flaw.Unclosed
-  long_word : {b : ℕ} {text : List ℕ} → NAME_LIMIT < length (word_of b text) → Spoils s.Word b text flaw.BadLiteral
+  long_word : {b : ℕ} {text : List ℕ} → longest_name < length (word_of b text) → Spoils s.Word b text flaw.BadLiteral
   bad_number : {b : ℕ} {text : List ℕ} → is_number (word_of b text) ≡ false → Spoils s.Number b text flaw.BadLiteral
   open_raw : {b : ℕ} {text : List ℕ} → after is_in_raw text ≡ [] → Spoils s.RawString b text flaw.Unclosed
   bad_string : {b : ℕ} {text : List ℕ} {f : Flaw} → SpoilsString text f → Spoils s.String b text f

@@ -1,7 +1,7 @@
 -- The tokens of a script, or its first fault.
 use Rattle.std.specs.Prelude.{◌≡◌, ℕ, ◌-◌, ◌<◌, ◌≤◌, List, [], ◌∷◌, length, take, drop, Result, Ok, Err, IsTrue, slice_index, ◌==◌, ◌||◌}
 use Rattle.std.specs.List.{list_all}
-use Rattle.ql_edge.specs.declared.name.TheConstants.{NAME_LIMIT}
+use Rattle.ql_edge.specs.Names.{longest_name}
 use Rattle.ql_lex.specs.declared.pieces.Piece.TheVariants as p
 use Rattle.ql_lex.specs.declared.token.Flaw.{Flaw}
 use Rattle.ql_lex.specs.declared.token.LexFault.{LexFault}
@@ -49,7 +49,7 @@ spelling_of source t = take (t.to - t.from) (drop t.from source)
 -- a spelling is a name: a letter or `_`, then letters, digits and `_`, 128 bytes at most, and no keyword
 pub record IsName (spelling : List ℕ) : Type 0 where
   pub some : 0 < length spelling
-  pub within : length spelling ≤ NAME_LIMIT
+  pub within : length spelling ≤ longest_name
   pub letter : IsTrue (is_letter (slice_index spelling 0))
   pub letters : IsTrue (list_all is_in_word spelling)
   pub other : (w : Word) → IsWord spelling w → ⊥

@@ -6,7 +6,7 @@ use Rattle.std.proofs.lemmas.Bool.{eqb-true, leb-true, lt-leb}
 use Rattle.std.proofs.lemmas.Fmt.{decimal_nonempty}
 use Rattle.std.proofs.Math.Numerals.{one-add}
 use Rattle.std.proofs.Math.Seq.{drop-append_seam, take-append_seam}
-use Rattle.ql_edge.specs.declared.name.TheConstants.{NAME_LIMIT}
+use Rattle.ql_edge.specs.Names.{longest_name}
 use Rattle.ql_lex.specs.declared.bytes.Start.{Start}
 use Rattle.ql_lex.specs.declared.bytes.Start.TheVariants as s
 use Rattle.ql_lex.specs.declared.marks.Mark.{Mark}
@@ -224,7 +224,7 @@ starts_number b text d =
     rw (blank, letter, d) refl
 
 -- a name or a keyword
-word_of_cut : (t : Lexeme) (b : ℕ) (others rest : List ℕ) → t.text ≡ b ∷ others → is_letter b ≡ true → list_all is_in_word others ≡ true → length (b ∷ others) ≤ NAME_LIMIT
+word_of_cut : (t : Lexeme) (b : ℕ) (others rest : List ℕ) → t.text ≡ b ∷ others → is_letter b ≡ true → list_all is_in_word others ≡ true → length (b ∷ others) ≤ longest_name
     → Names (b ∷ others) t.kind → ends rest ≡ true → IsCut t rest
 word_of_cut t b others rest e l a w n f =
     let r = run b others rest a f in
