@@ -88,7 +88,7 @@ creation_reads h = r.by_rule (r.second refl refl (r.second refl refl (r.second r
 -- what an index orders by, in the brackets of CREATE INDEX
 pub record BackInnerItem (n : ℕ) (it : Item) (rest : List Lexeme) : Type 0 where
   pub parse : Parse
-  pub reads : Reads n item (item_before it rest) parse rest
+  pub reads : Reads n item_rule (item_before it rest) parse rest
   pub tree : inner_item_of parse ≡ it
 
 pub back_inner_item : {n : ℕ} {ts r : List Lexeme} {a : Parse} → Reads n item_rule ts a r → (rest : List Lexeme) → sees is_open rest ≡ false → BackInnerItem n (inner_item_of a) rest
@@ -106,13 +106,13 @@ back_inner_item (r.second e d (r.takes {t = t} s)) rest after = record {
 -- the same with its brackets
 pub record BackIndexItem (n : ℕ) (it : Item) (rest : List Lexeme) : Type 0 where
   pub parse : Parse
-  pub reads : Reads n (bracketed item) (mark_token m.Open ∷ item_before it (mark_token m.Close ∷ rest)) parse rest
+  pub reads : Reads n (bracketed item_rule) (mark_token m.Open ∷ item_before it (mark_token m.Close ∷ rest)) parse rest
   pub tree : item_of parse ≡ it
 
 pub item_enclosed : {n : ℕ} {it : Item} {rest : List Lexeme} → BackInnerItem n it (mark_token m.Close ∷ rest) → BackIndexItem (suc n) it rest
 item_enclosed b = record { parse = group b.parse; reads = r.enclosed refl b.reads refl; tree = b.tree }
 
-back_item : {n : ℕ} {ts r : List Lexeme} {a : Parse} → Reads n (bracketed item) ts a r → (rest : List Lexeme) → BackIndexItem n (item_of a) rest
+back_item : {n : ℕ} {ts r : List Lexeme} {a : Parse} → Reads n (bracketed item_rule) ts a r → (rest : List Lexeme) → BackIndexItem n (item_of a) rest
 back_item (r.enclosed o h c) rest = item_enclosed (back_inner_item h (mark_token m.Close ∷ rest) refl)
 
 pub table_created : {n : ℕ} (quiet : Bool) (table : List ℕ) {x : ColumnDef} {xs : List ColumnDef} → BackList n (the column) column_before column_of columns_of plain_column (x ∷ xs) (mark_token m.Close ∷ []) →

@@ -18,7 +18,7 @@ use Rattle.ql_syntax.specs.SameTokens.{SameTokens, SameScript, ends_list, ends_s
 use Rattle.ql_syntax.specs.SameTokens as is
 use Rattle.ql_syntax.specs.Statements.{is_not_null, rule_in, columns_of, names_of, row_of, rows_of, assigns_of, item_of, creation_of, removal_of, alteration_of, insertion_of, update_of, deletion_of, statement_of, later_of, statements_of}
 use Rattle.ql_syntax.specs.Statements as tree
-use Rattle.ql_syntax.specs.StoredParts.{item}
+use Rattle.ql_syntax.specs.Rules.{item_rule}
 use Rattle.ql_syntax.specs.Trees.{expr_of, option_of, is_present}
 use Rattle.ql_print.proofs.BackTokens.{word_token}
 use Rattle.ql_print.proofs.KeptTokens.{IsWorth, Goes, goes_none, goes_then, goes_space, goes_mark, goes_word, goes_name, goes_kind, goes_id, goes_bracketed, word_worth, close_ends_list, semicolon_ends, list_ends, commas, goes_further, goes_trailing}
@@ -66,7 +66,7 @@ unique_kept (r.left_out f) h = h
 unique_kept (r.entered f (r.takes i)) h = goes_word i (goes_space h)
 
 -- what an index orders by, in brackets
-item_kept : {n : ℕ} {ts rest : List Lexeme} {a : Parse} → Reads n (rule.bracketed item) ts a rest → Goes ts rest (bracketed (ink_of_item (item_of a)))
+item_kept : {n : ℕ} {ts rest : List Lexeme} {a : Parse} → Reads n (rule.bracketed item_rule) ts a rest → Goes ts rest (bracketed (ink_of_item (item_of a)))
 item_kept (r.enclosed o (r.first f (r.both (r.takes_before i j) (r.enclosed p r.takes_nothing c))) d) = goes_bracketed o (goes_id i (goes_bracketed p goes_none c)) d
 item_kept (r.enclosed o (r.second f g (r.takes i)) d) = goes_bracketed o (goes_name i goes_none) d
 

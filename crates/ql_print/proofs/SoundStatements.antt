@@ -59,11 +59,11 @@ columns_sound : {n : ℕ} {a : Parse} → Fits n (list (the column)) a → AreSo
 columns_sound (f.both h k) = one (column_sound_of h) (further_columns k)
 
 -- what an index orders by
-pub inner_item_there : {n : ℕ} {a : Parse} → Fits n item a → IsNamedItem (inner_item_of a)
+pub inner_item_there : {n : ℕ} {a : Parse} → Fits n item_rule a → IsNamedItem (inner_item_of a)
 inner_item_there (f.first h) = tt
 inner_item_there (f.second (f.takes {t = t} e s)) = is_name t e s
 
-item_there : {n : ℕ} {a : Parse} → Fits n (rule.bracketed item) a → IsNamedItem (item_of a)
+item_there : {n : ℕ} {a : Parse} → Fits n (rule.bracketed item_rule) a → IsNamedItem (item_of a)
 item_there (f.enclosed h) = inner_item_there h
 
 -- what CREATE makes
