@@ -1,5 +1,6 @@
 -- Every script comes to something, and means something.
 use Rattle.std.proofs.Common.{◌≡◌, ℕ, ◌-◌, ◌<◌, ◌≤◌, ◌⊎◌, inl, inr, true, false, List, ◌∷◌, length, refl, arith}
+use Rattle.std.proofs.lemmas.Bool.{false≢true}
 use Rattle.std.proofs.lemmas.Bool.Decides.{leb_tells}
 use Rattle.std.proofs.Math.Dec.{leb}
 use Rattle.std.specs.Prelude.{Option, Some, None, Result, Ok, Err}
@@ -67,4 +68,4 @@ pub meant : (asked : Command) (input : Option (List ℕ)) → TellsScript asked 
 meant (command.Usage word) input tells = (_, usage refl refl)
 meant (command.Text text) input tells = let o = something text in (_, script refl o.1 refl)
 meant command.Input (Some source) tells = let o = something source in (_, script refl o.1 refl)
-meant command.Input None tells = elim tells [ ]
+meant command.Input None tells = absurd (false≢true tells)
