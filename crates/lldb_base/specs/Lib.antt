@@ -1,0 +1,4 @@
+pub mod Batch
+pub mod Filers
+pub mod Inner
+pub mod Trouble
