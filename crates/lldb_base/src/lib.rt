@@ -12,4 +12,5 @@ pub use base::BaseFiler;
 pub use batch::{Batch, Piece};
 pub use inner::InnerFiler;
 pub use memory::MemFiler;
+pub use texts::Texts;
 pub use trouble::{Refused, Trouble};

@@ -12,3 +12,6 @@ pub mod NoAggregates
 pub mod PlanFits
 pub mod SelectFits
 pub mod EffectExamples
+mod PlaceLemmas
+mod TableLemmas
+mod CheckLemmas
