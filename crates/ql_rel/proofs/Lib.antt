@@ -15,3 +15,6 @@ pub mod EffectExamples
 mod PlaceLemmas
 mod TableLemmas
 mod CheckLemmas
+mod SchemaLemmas
+mod ColumnLemmas
+mod RelLemmas

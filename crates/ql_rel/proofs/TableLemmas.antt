@@ -1,6 +1,6 @@
 -- Lists with a member changed, and what tables hold.
 use Rattle.std.proofs.Common.{◌≡◌, ℕ, zero, suc, ◌+◌, ◌<◌, ◌≤◌, List, [], ◌∷◌, length, get_or, slice_get, slice_set, refl, sym, ap, ◌∙◌, arith}
-use Rattle.std.proofs.Common.{map, filter, ◌++◌, find, Bool, true, false, cond, ◌==◌, nat_lt, Option, Some, None, IfSome, IsErrAnd, Result, Ok, Err, OnOk, Bor, subst}
+use Rattle.std.proofs.Common.{add-one, map, filter, take, drop, ◌++◌, find, Bool, true, false, cond, ◌==◌, nat_lt, Option, Some, None, IfSome, IsErrAnd, Result, Ok, Err, OnOk, Bor, subst}
 use Rattle.std.proofs.lemmas.Bool.Decides.{nat_tests}
 use Rattle.std.specs.Option.{option_copied}
 use Rattle.ql_value.specs.declared.value.Value.{Value}
@@ -16,6 +16,7 @@ use Rattle.ql_rel.specs.declared.bounds.TheConstants.{LAST_ID}
 use Rattle.ql_rel.specs.Refusals.{IsRefusedBy, or_next, row_refusal, insert_refusal}
 use Rattle.ql_rel.specs.Changes.{changed_at, rows_changed, inserted, with_rows, with_row, row_of, with_values, is_other, no_rows}
 use Rattle.ql_rel.specs.Databases.{columns_if, rows_if, rows_at, table_schema, schema_of}
+use Rattle.ql_rel.specs.Places.{with_columns}
 use Rattle.ql_rel.specs.PlainDbs.{db_with, tables_with, Hold}
 use Rattle.ql_rel.specs.Rels.{is_after, has_id}
 use Rattle.ql_rel.specs.WellFormed.{Fits, AllFit, Rise, AllBelow}
@@ -289,3 +290,15 @@ pub insert_exit : (T U : Type 0) (table next : ℕ) (values : List Value) (schem
     IsRefusedBy {T = T} (row_refusal table (row_of next values) schema) (Err f) → IsRefusedBy {T = U} (insert_refusal table values (db_with next schema rows)) r
 insert_exit T U table next values schema rows f r h e g =
     refused_exit T U (row_refusal table (row_of next values) (schema_of (db_with next schema rows))) _ f r e (subst (λ (o : Option RelFault). IsRefusedBy {T = T} o (Err f)) (sym (row_refusal_kept table next values schema rows h)) g)
+
+-- a list taken apart at a place, and put together again with another member there
+pub changed-parts : {A : Type 0} (f : A → A) (xs : List A) (n : ℕ) (d : A) → n < length xs → (take n xs ++ f (get_or xs n d) ∷ []) ++ drop (suc n) xs ≡ changed_at n f xs
+changed-parts f [] n d h = absurd (omega arith)
+changed-parts f (x ∷ xs) zero d h = refl
+changed-parts f (x ∷ xs) (suc n) d h = ap (λ ys. x ∷ ys) (changed-parts f xs n d (omega arith))
+
+pub table_parts : (columns : List ColumnDef) (tables : List TableSchema) (n : ℕ) (t : TableSchema) (name : List ℕ) → n < length tables → name ≡ (get_or tables n t).name →
+    (take n tables ++ record { name = name; columns = columns } ∷ []) ++ drop (n + 1) tables ≡ changed_at n (with_columns columns) tables
+table_parts columns tables n t name h m =
+    let own : ◌≡◌ {A = TableSchema} (record { name = name; columns = columns }) (with_columns columns (get_or tables n t)) = ap (λ (k : List ℕ). with_columns columns (record { name = k; columns = columns })) m in
+    rw (add-one, own) (changed-parts (with_columns columns) tables n t h)

@@ -1,5 +1,5 @@
 -- The database that is kept in memory.
-use Rattle.std.specs.Prelude.{◌≡◌, Result, Ok, Err}
+use Rattle.std.specs.Prelude.{◌≡◌, List, [], ◌∷◌, ◌++◌, Option, Some, Result, Ok, Err}
 use Rattle.lldb_base.specs.declared.trouble.Trouble.TheVariants as trouble
 use Rattle.ql_rel.specs.declared.db.Db.{Db}
 use Rattle.ql_rel.specs.declared.fault.RelFault.{RelFault}
@@ -19,3 +19,8 @@ WantsMemory (Err (fault.KeyTooLong _)) = Unit {0}
 WantsMemory (Err fault.IdsSpent) = Unit {0}
 WantsMemory (Err fault.TableLimit) = Unit {0}
 WantsMemory (Err (fault.Trouble t)) = t ≡ trouble.NoMemory
+
+-- the databases that are kept for levels, the last one first; they stand in the order in which they were saved
+abbrev pub saved_of : List PlainDb → List (Option Db)
+saved_of [] = []
+saved_of (kept ∷ more) = saved_of more ++ Some (db_of kept) ∷ []

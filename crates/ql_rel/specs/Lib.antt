@@ -25,3 +25,4 @@ pub mod Rels
 pub mod PlainDbs
 pub mod Places
 pub mod Kept
+pub mod RelLaws

@@ -1,16 +1,15 @@
-ghost use Rattle.std.specs.Prelude.{◌≡◌, [], IfOk, OnOk};
+ghost use Rattle.std.specs.Prelude.{◌≡◌, ◌++◌, IfOk, OnOk};
 
 use crate::Row;
 use ql_edge::NoMemory;
-use ql_value::{Values, copy_value};
+use ql_value::{Value, Values, copy_value};
 use std::alloc::Global;
 
-/// Adds copies of the values to a list that is empty.
-fn add_values(alloc: Global, values: &Values, copy: &mut Values) -> Result<(), NoMemory>
-    requires { copy.old ≡ [] }
-    ensures { OnOk result (copy.new ≡ values.now) }
+/// Adds copies of the values.
+pub(crate) fn add_values(alloc: Global, values: &[Value], copy: &mut Values) -> Result<(), NoMemory>
+    ensures { OnOk result (copy.new ≡ copy.old ++ values.now) }
 {
-    for value in values.as_slice() {
+    for value in values {
         copy.push(copy_value(alloc, value)?)?;
     }
     Ok(())
@@ -21,7 +20,7 @@ pub(crate) fn copy_values(alloc: Global, values: &Values) -> Result<Values, NoMe
     ensures { IfOk result (λ copy. copy ≡ values.now) }
 {
     let mut copy = Values::with_capacity(alloc, values.len())?;
-    add_values(alloc, values, &mut copy)?;
+    add_values(alloc, values.as_slice(), &mut copy)?;
     Ok(copy)
 }
 
@@ -31,7 +30,7 @@ pub(crate) fn read_row(alloc: Global, row: &Row, out: &mut Row) -> Result<(), No
 {
     out.id = row.id;
     out.values.clear();
-    add_values(alloc, &row.values, &mut out.values)
+    add_values(alloc, row.values.as_slice(), &mut out.values)
 }
 
 /// A copy of a row.

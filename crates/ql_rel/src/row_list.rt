@@ -1,4 +1,4 @@
-ghost use Rattle.std.specs.Prelude.{◌≡◌, [], ◌∷◌, ◌++◌, ◌≤◌, length, map, filter, slice_get, find, OnOk, OnErr};
+ghost use Rattle.std.specs.Prelude.{◌≡◌, [], ◌∷◌, ◌++◌, ◌≤◌, length, map, filter, slice_get, find, IfOk, OnOk, OnErr};
 ghost use Rattle.std.specs.Option.{option_copied};
 ghost use Rattle.ql_rel.specs.Changes.{with_values, is_other};
 ghost use Rattle.ql_rel.specs.Places.{place_after, place_with};
@@ -33,6 +33,15 @@ impl RowList {
         RowList {
             rows: Vec::new(alloc),
         }
+    }
+
+    /// No rows, with room for so many.
+    pub fn with_capacity(alloc: Global, capacity: usize) -> Result<RowList, NoMemory>
+        ensures { IfOk result (λ list. list ≡ []) }
+    {
+        Ok(RowList {
+            rows: Vec::with_capacity(alloc, capacity)?,
+        })
     }
 
     pub fn as_slice(&self) -> &[Row]

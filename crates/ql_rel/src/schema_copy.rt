@@ -11,10 +11,7 @@ pub(crate) fn copy_name(alloc: Global, name: &Name) -> Result<Name, NoMemory>
     Name::new(alloc, name.as_slice())
 }
 
-fn copy_option(
-    alloc: Global,
-    expr: &Option<Boxed<Expr>>,
-) -> Result<Option<Boxed<Expr>>, NoMemory>
+fn copy_option(alloc: Global, expr: &Option<Boxed<Expr>>) -> Result<Option<Boxed<Expr>>, NoMemory>
     ensures { IfOk result (λ copy. copy ≡ expr.now) }
 {
     match expr {
