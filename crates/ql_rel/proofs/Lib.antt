@@ -12,9 +12,3 @@ pub mod NoAggregates
 pub mod PlanFits
 pub mod SelectFits
 pub mod EffectExamples
-mod PlaceLemmas
-mod TableLemmas
-mod CheckLemmas
-mod SchemaLemmas
-mod ColumnLemmas
-mod RelLemmas

@@ -22,7 +22,3 @@ pub mod Accepted
 pub mod WellFormed
 pub mod Lawful
 pub mod Rels
-pub mod PlainDbs
-pub mod Places
-pub mod Kept
-pub mod RelLaws

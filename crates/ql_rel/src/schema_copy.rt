@@ -5,7 +5,8 @@ use ql_edge::{Boxed, Name, NoMemory};
 use ql_syntax::{ColumnDef, ColumnDefs, Expr, Item, copy_expr};
 use std::alloc::Global;
 
-pub(crate) fn copy_name(alloc: Global, name: &Name) -> Result<Name, NoMemory>
+/// A copy of a name.
+pub fn copy_name(alloc: Global, name: &Name) -> Result<Name, NoMemory>
     ensures { IfOk result (λ copy. copy ≡ name.now) }
 {
     Name::new(alloc, name.as_slice())
@@ -23,7 +24,8 @@ fn copy_option(alloc: Global, expr: &Option<Boxed<Expr>>) -> Result<Option<Boxed
     }
 }
 
-pub(crate) fn copy_column(alloc: Global, column: &ColumnDef) -> Result<ColumnDef, NoMemory>
+/// A copy of a column.
+pub fn copy_column(alloc: Global, column: &ColumnDef) -> Result<ColumnDef, NoMemory>
     ensures { IfOk result (λ copy. copy ≡ column.now) }
 {
     let name = copy_name(alloc, &column.name)?;
@@ -39,7 +41,7 @@ pub(crate) fn copy_column(alloc: Global, column: &ColumnDef) -> Result<ColumnDef
 }
 
 /// Adds copies of the columns.
-pub(crate) fn add_columns(
+pub fn add_columns(
     alloc: Global,
     columns: &[ColumnDef],
     copy: &mut ColumnDefs,
@@ -60,7 +62,8 @@ fn copy_columns(alloc: Global, columns: &ColumnDefs) -> Result<ColumnDefs, NoMem
     Ok(copy)
 }
 
-pub(crate) fn copy_table(alloc: Global, table: &TableSchema) -> Result<TableSchema, NoMemory>
+/// A copy of a table's schema.
+pub fn copy_table(alloc: Global, table: &TableSchema) -> Result<TableSchema, NoMemory>
     ensures { IfOk result (λ copy. copy ≡ table.now) }
 {
     let name = copy_name(alloc, &table.name)?;
@@ -69,7 +72,7 @@ pub(crate) fn copy_table(alloc: Global, table: &TableSchema) -> Result<TableSche
 }
 
 /// Adds copies of the tables.
-pub(crate) fn add_tables(
+pub fn add_tables(
     alloc: Global,
     tables: &[TableSchema],
     copy: &mut TableSchemas,
@@ -91,7 +94,8 @@ fn copy_item(alloc: Global, item: &Item) -> Result<Item, NoMemory>
     }
 }
 
-pub(crate) fn copy_index(alloc: Global, index: &Index) -> Result<Index, NoMemory>
+/// A copy of an index.
+pub fn copy_index(alloc: Global, index: &Index) -> Result<Index, NoMemory>
     ensures { IfOk result (λ copy. copy ≡ index.now) }
 {
     let name = copy_name(alloc, &index.name)?;
@@ -106,11 +110,7 @@ pub(crate) fn copy_index(alloc: Global, index: &Index) -> Result<Index, NoMemory
 }
 
 /// Adds copies of the indexes.
-pub(crate) fn add_indexes(
-    alloc: Global,
-    indexes: &[Index],
-    copy: &mut Indexes,
-) -> Result<(), NoMemory>
+fn add_indexes(alloc: Global, indexes: &[Index], copy: &mut Indexes) -> Result<(), NoMemory>
     ensures { OnOk result (copy.new ≡ copy.old ++ indexes.now) }
 {
     for index in indexes {
