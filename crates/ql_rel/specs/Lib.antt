@@ -22,3 +22,4 @@ pub mod Accepted
 pub mod WellFormed
 pub mod Lawful
 pub mod Rels
+pub mod ChangeLaws

@@ -4,6 +4,7 @@
 mod bounds;
 mod db;
 mod fault;
+mod laws;
 mod limit;
 mod plan;
 mod rel;
@@ -15,6 +16,7 @@ pub use bounds::{
 };
 pub use db::{Db, Row, Rows, Table, Tables};
 pub use fault::RelFault;
+pub use laws::change_laws;
 pub use limit::TABLE_LIMIT;
 pub use plan::Plan;
 pub use rel::Rel;
