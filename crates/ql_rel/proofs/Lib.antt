@@ -12,3 +12,4 @@ pub mod NoAggregates
 pub mod PlanFits
 pub mod SelectFits
 pub mod EffectExamples
+mod ChangeLemmas

@@ -12,3 +12,14 @@ pub mod Rows
 pub mod Tables
 pub mod Effect
 pub mod Meaning
+pub mod Names
+pub mod Databases
+pub mod Changes
+pub mod Limits
+pub mod Refusals
+pub mod Creates
+pub mod Accepted
+pub mod WellFormed
+pub mod Lawful
+pub mod Rels
+pub mod ChangeLaws

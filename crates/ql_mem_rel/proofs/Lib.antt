@@ -1,0 +1,6 @@
+mod PlaceLemmas
+mod TableLemmas
+mod CheckLemmas
+mod SchemaLemmas
+mod ColumnLemmas
+mod RelLemmas

@@ -1,0 +1,4 @@
+pub mod Kept
+pub mod PlainDbs
+pub mod Places
+pub mod RelLaws
