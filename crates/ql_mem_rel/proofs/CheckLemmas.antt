@@ -13,7 +13,7 @@ use Rattle.ql_rel.specs.declared.schema.Index.{Index}
 use Rattle.ql_rel.specs.declared.schema.Schema.{Schema}
 use Rattle.ql_rel.specs.declared.schema.TableSchema.{TableSchema}
 use Rattle.ql_rel.specs.declared.fault.RelFault.TheVariants as fault
-use Rattle.ql_rel.specs.declared.bounds.TheConstants.{ROW_LIMIT}
+use Rattle.ql_rel.specs.Limits.{longest_row}
 use Rattle.ql_rel.specs.Databases.{columns_if, name_if}
 use Rattle.ql_rel.specs.Refusals.{row_refusal, key_refusal}
 use Rattle.ql_rel.specs.Limits.{value_under, first_long_key, has_long_key}
@@ -31,12 +31,12 @@ under_next name (x ∷ columns) (y ∷ values) zero c h e b = let same : bytes_e
 under_next name (x ∷ columns) [] (suc i) c h e b = under_none name (drop (suc i) columns) ∙ sym (under_none name (drop i columns))
 under_next name (x ∷ columns) (y ∷ values) (suc i) c h e b = under_next name columns values i c (omega arith) e b
 
-not_long : (n : ℕ) → n ≤ ROW_LIMIT → nat_lt ROW_LIMIT n ≡ false
+not_long : (n : ℕ) → n ≤ longest_row → nat_lt longest_row n ≡ false
 not_long n h = grind (arith, nat_tests)
 
 -- what the keys of a row come to, once it is short enough
 pub row_refusal_at : (table : ℕ) (row : Row) (schema : Schema) (tables : List TableSchema) (t : TableSchema) (o : Option (List ℕ)) → tables ≡ schema.tables → table < length schema.tables → t ≡ get_or tables table t →
-    length_of_row row.values ≤ ROW_LIMIT → first_long_key t.name t.columns schema.indexes row ≡ o → row_refusal table row schema ≡ key_refusal o
+    length_of_row row.values ≤ longest_row → first_long_key t.name t.columns schema.indexes row ≡ o → row_refusal table row schema ≡ key_refusal o
 row_refusal_at table row schema tables t o a h e b f =
     let there : slice_get schema.tables table ≡ Some t = slice_get-get_or schema.tables table t h ∙ ap (λ (x : TableSchema). Some x) (ap (λ (ts : List TableSchema). get_or ts table t) (sym a) ∙ sym e) in
     rw (not_long (length_of_row row.values) b, there, f) refl
@@ -58,20 +58,20 @@ long_past name columns (y ∷ indexes) row (suc i) h = long_past name columns in
 
 -- the loop of the check ends at an index, or with none
 pub refused_there : (table : ℕ) (row : Row) (schema : Schema) (tables : List TableSchema) (indexes : List Index) (t : TableSchema) (i : ℕ) (x : Index) (name : List ℕ) (n : ℕ) →
-    tables ≡ schema.tables → indexes ≡ schema.indexes → table < length schema.tables → t ≡ get_or tables table t → n ≡ length_of_row row.values → n ≤ ROW_LIMIT →
+    tables ≡ schema.tables → indexes ≡ schema.indexes → table < length schema.tables → t ≡ get_or tables table t → n ≡ length_of_row row.values → n ≤ longest_row →
     first_long_key t.name t.columns (drop i schema.indexes) row ≡ first_long_key t.name t.columns schema.indexes row →
     i < length indexes → x ≡ get_or indexes i x → has_long_key t.name t.columns row x ≡ true → name ≡ x.name → row_refusal table row schema ≡ Some (fault.KeyTooLong name)
 refused_there table row schema tables indexes t i x name n a b h e l m v w y z q =
     let here : first_long_key t.name t.columns (drop i schema.indexes) row ≡ Some x.name = ap (λ (is : List Index). first_long_key t.name t.columns (drop i is) row) (sym b) ∙ long_here t.name t.columns indexes row i x w y z in
-    row_refusal_at table row schema tables t (Some x.name) a h e (subst (λ k. k ≤ ROW_LIMIT) l m) (sym v ∙ here) ∙ ap (λ (k : List ℕ). Some (fault.KeyTooLong k)) (sym q)
+    row_refusal_at table row schema tables t (Some x.name) a h e (subst (λ k. k ≤ longest_row) l m) (sym v ∙ here) ∙ ap (λ (k : List ℕ). Some (fault.KeyTooLong k)) (sym q)
 
 pub refused_nowhere : (table : ℕ) (row : Row) (schema : Schema) (tables : List TableSchema) (indexes : List Index) (t : TableSchema) (i : ℕ) (n : ℕ) →
-    tables ≡ schema.tables → indexes ≡ schema.indexes → table < length schema.tables → t ≡ get_or tables table t → n ≡ length_of_row row.values → n ≤ ROW_LIMIT →
+    tables ≡ schema.tables → indexes ≡ schema.indexes → table < length schema.tables → t ≡ get_or tables table t → n ≡ length_of_row row.values → n ≤ longest_row →
     first_long_key t.name t.columns (drop i schema.indexes) row ≡ first_long_key t.name t.columns schema.indexes row →
     length indexes ≤ i → row_refusal table row schema ≡ None
 refused_nowhere table row schema tables indexes t i n a b h e l m v w =
     let past : first_long_key t.name t.columns (drop i schema.indexes) row ≡ None = ap (λ (is : List Index). first_long_key t.name t.columns (drop i is) row) (sym b) ∙ long_past t.name t.columns indexes row i w in
-    row_refusal_at table row schema tables t None a h e (subst (λ k. k ≤ ROW_LIMIT) l m) (sym v ∙ past)
+    row_refusal_at table row schema tables t None a h e (subst (λ k. k ≤ longest_row) l m) (sym v ∙ past)
 
 -- the names are not the same, as the code asks it
 pub other_name : (a b x y : List ℕ) (t : Bool) → x ≡ a → y ≡ b → t ≡ bytes_eq x y → t ≡ false → bytes_eq a b ≡ false

@@ -6,7 +6,7 @@ use Rattle.std.specs.List.{AllByRecursion}
 use Rattle.ql_value.specs.declared.value.Value.{Value}
 use Rattle.ql_value.specs.declared.value.Value.TheVariants as v
 use Rattle.ql_syntax.specs.declared.statement.ColumnDef.{ColumnDef}
-use Rattle.ql_rel.specs.declared.bounds.TheConstants.{COLUMN_LIMIT}
+use Rattle.ql_rel.specs.Limits.{most_columns}
 use Rattle.ql_rel.specs.declared.db.Db.{Db}
 use Rattle.ql_rel.specs.declared.db.Row.{Row}
 use Rattle.ql_rel.specs.declared.db.Table.{Table}
@@ -144,8 +144,8 @@ changed_within n columns schema w h =
 
 pub within_wider : (n : ℕ) (column : ColumnDef) (schema : Schema) (t : TableSchema) → n < length schema.tables → t ≡ get_or schema.tables n t → is_past_added column t.columns ≡ false → IsWithin schema → IsWithin (record { tables = changed_at n (with_columns (t.columns ++ column ∷ [])) schema.tables; indexes = schema.indexes })
 within_wider n column schema t l e p h =
-    let parts = or_false (nat_le COLUMN_LIMIT (length t.columns)) (is_past_column column) p in
-    let few : length t.columns < COLUMN_LIMIT = le-false COLUMN_LIMIT (length t.columns) parts.0 in
+    let parts = or_false (nat_le most_columns (length t.columns)) (is_past_column column) p in
+    let few : length t.columns < most_columns = le-false most_columns (length t.columns) parts.0 in
     let old : IsTableWithin t = all_at IsTableWithin schema.tables n t h.columns l e in
     let more = length-wider column t.columns in
     changed_within n (t.columns ++ column ∷ []) schema (λ u. record { some = omega arith; few = omega arith; texts = texts_wider column t.columns parts.1 old.texts }) h

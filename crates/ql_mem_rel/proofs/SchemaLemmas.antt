@@ -5,7 +5,7 @@ use Rattle.std.proofs.lemmas.Option.{slice_get-get_or}
 use Rattle.std.proofs.Common.{filter, if◌then◌else◌, ◌==◌}
 use Rattle.std.specs.List.{list_any, AllByRecursion}
 use Rattle.ql_syntax.specs.declared.statement.ColumnDef.{ColumnDef}
-use Rattle.ql_rel.specs.declared.bounds.TheConstants.{INDEX_LIMIT, COLUMN_LIMIT}
+use Rattle.ql_rel.specs.Limits.{most_indexes, most_columns}
 use Rattle.ql_rel.specs.declared.db.Db.{Db}
 use Rattle.ql_rel.specs.declared.db.Row.{Row}
 use Rattle.ql_rel.specs.declared.db.Table.{Table}
@@ -79,8 +79,8 @@ le-false a b h = grind (arith, nat_tests)
 
 pub table_within : (t : TableSchema) → 0 < length t.columns → are_past_columns t.columns ≡ false → IsTableWithin t
 table_within t some e =
-    let parts = or_false (nat_lt COLUMN_LIMIT (length t.columns)) (list_any is_past_column t.columns) e in
-    record { some = some; few = lt-false COLUMN_LIMIT (length t.columns) parts.0; texts = none_past t.columns parts.1 }
+    let parts = or_false (nat_lt most_columns (length t.columns)) (list_any is_past_column t.columns) e in
+    record { some = some; few = lt-false most_columns (length t.columns) parts.0; texts = none_past t.columns parts.1 }
 
 -- a schema with one table more
 pub within_created : (t : TableSchema) (n : ℕ) (schema : Schema) → 0 < length t.columns → is_past_table t schema ≡ false → IsWithin schema → IsWithin (record { tables = insert schema.tables n t; indexes = schema.indexes })

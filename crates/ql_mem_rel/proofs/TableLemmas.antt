@@ -12,7 +12,7 @@ use Rattle.ql_rel.specs.declared.schema.Schema.{Schema}
 use Rattle.ql_rel.specs.declared.schema.TableSchema.{TableSchema}
 use Rattle.ql_rel.specs.declared.fault.RelFault.{RelFault}
 use Rattle.ql_rel.specs.declared.fault.RelFault.TheVariants as fault
-use Rattle.ql_rel.specs.declared.bounds.TheConstants.{LAST_ID}
+use Rattle.ql_rel.specs.Limits.{last_id}
 use Rattle.ql_rel.specs.Refusals.{IsRefusedBy, or_next, row_refusal, insert_refusal}
 use Rattle.ql_rel.specs.Changes.{changed_at, rows_changed, inserted, with_rows, with_row, row_of, with_values, is_other, no_rows}
 use Rattle.ql_rel.specs.Databases.{columns_if, rows_if, rows_at, table_schema, schema_of}
@@ -268,17 +268,17 @@ refused_first T U o next (fault.Trouble t) h = tt
 pub row_refusal_kept : (table next : ℕ) (values : List Value) (schema : Schema) (rows : List (List Row)) → Hold next schema.tables rows → row_refusal table (row_of next values) (schema_of (db_with next schema rows)) ≡ row_refusal table (row_of next values) schema
 row_refusal_kept table next values schema rows h = ap (λ (s : Schema). row_refusal table (row_of next values) s) (schema_with next schema rows (hold_length next schema.tables rows h))
 
-last-true : (n : ℕ) → LAST_ID < n → nat_lt LAST_ID n ≡ true
+last-true : (n : ℕ) → last_id < n → nat_lt last_id n ≡ true
 last-true n h = grind (arith, nat_tests)
 
-last-false : (n : ℕ) → n ≤ LAST_ID → nat_lt LAST_ID n ≡ false
+last-false : (n : ℕ) → n ≤ last_id → nat_lt last_id n ≡ false
 last-false n h = grind (arith, nat_tests)
 
 -- a row that may stand is refused where the ids are spent, and only there
-pub refused_spent : (table next : ℕ) (values : List Value) (schema : Schema) (rows : List (List Row)) → Hold next schema.tables rows → ◌≡◌ {A = Option RelFault} (row_refusal table (row_of next values) schema) None → LAST_ID < next → insert_refusal table values (db_with next schema rows) ≡ Some fault.IdsSpent
+pub refused_spent : (table next : ℕ) (values : List Value) (schema : Schema) (rows : List (List Row)) → Hold next schema.tables rows → ◌≡◌ {A = Option RelFault} (row_refusal table (row_of next values) schema) None → last_id < next → insert_refusal table values (db_with next schema rows) ≡ Some fault.IdsSpent
 refused_spent table next values schema rows h e l = rw (row_refusal_kept table next values schema rows h, e, last-true next l) refl
 
-pub refused_never : (table next : ℕ) (values : List Value) (schema : Schema) (rows : List (List Row)) → Hold next schema.tables rows → ◌≡◌ {A = Option RelFault} (row_refusal table (row_of next values) schema) None → next ≤ LAST_ID → insert_refusal table values (db_with next schema rows) ≡ None
+pub refused_never : (table next : ℕ) (values : List Value) (schema : Schema) (rows : List (List Row)) → Hold next schema.tables rows → ◌≡◌ {A = Option RelFault} (row_refusal table (row_of next values) schema) None → next ≤ last_id → insert_refusal table values (db_with next schema rows) ≡ None
 refused_never table next values schema rows h e l = rw (row_refusal_kept table next values schema rows h, e, last-false next l) refl
 
 -- the same at the exit of a `?`

@@ -10,17 +10,19 @@ use Rattle.ql_syntax.specs.declared.statement.Item.TheVariants as item
 use Rattle.ql_syntax.specs.declared.statement.Statement.{Statement}
 use Rattle.ql_syntax.specs.declared.statement.Statement.TheVariants as s
 use Rattle.ql_syntax.specs.declared.syntax.Expr.{Expr}
-use Rattle.ql_syntax.specs.Typing.{Typing, of_kind, among}
+use Rattle.ql_syntax.specs.declared.typing.Typing.{Typing}
+use Rattle.ql_syntax.specs.declared.typing.Typing.TheVariants.{OfKind}
+use Rattle.ql_syntax.specs.Typing.{among}
 use Rattle.ql_rel.specs.declared.schema.Index.{Index}
 use Rattle.ql_rel.specs.declared.schema.Schema.{Schema}
 use Rattle.ql_rel.specs.declared.schema.TableSchema.{TableSchema}
 use Rattle.ql_rel.specs.Answers.{Answer, then_with}
-use Rattle.ql_rel.specs.Checked.{Checked, ruled, meet_type}
+use Rattle.ql_rel.specs.Checked.{require_type, meet_type}
 use Rattle.ql_rel.specs.Creates.{create_statements}
 use Rattle.ql_rel.specs.Databases.{empty_schema}
 use Rattle.ql_rel.specs.Limits.{is_past_table, is_past_index}
 use Rattle.ql_rel.specs.Names.{placed, has_name, are_different, column_names, is_name_taken}
-use Rattle.ql_rel.specs.Scopes.{Slot, Scope}
+use Rattle.ql_rel.specs.declared.scope.Scope.{Scope}
 use Rattle.ql_rel.specs.Types.{checked}
 
 -- the name begins with two underscores
@@ -30,7 +32,7 @@ is_reserved name = bytes_eq (take 2 name) (codes "__")
 -- what a rule sees: the columns of its table, and no id
 abbrev pub rule_scope : List ℕ → List ColumnDef → Scope
 rule_scope table columns =
-    record { seen = map (λ (c : ColumnDef). record { set = Some table; column = Some c.name; type = of_kind c.kind }) columns; fields = []; width = length columns }
+    record { seen = map (λ (c : ColumnDef). record { set = Some table; column = Some c.name; typing = OfKind c.kind }) columns; fields = []; width = length columns }
 
 -- what a default sees: nothing
 abbrev pub no_scope : Scope
@@ -38,11 +40,11 @@ no_scope = record { seen = []; fields = []; width = 0 }
 
 -- a rule that is a truth
 abbrev pub rule_of : Scope → Expr → Answer Typing
-rule_of scope rule = then_with (checked scope false rule) (λ c. ruled (among is_truth c.type))
+rule_of scope rule = then_with (checked scope false rule) (λ c. require_type (among is_truth c.typing))
 
 -- a default of the column's kind
 abbrev pub default_of : Kind → Expr → Answer Typing
-default_of kind default = then_with (checked no_scope false default) (λ c. then_with (meet_type (of_kind kind) c) (λ d. ruled (among (same_kind kind) d.type)))
+default_of kind default = then_with (checked no_scope false default) (λ c. then_with (meet_type (OfKind kind) c) (λ d. require_type (among (same_kind kind) d.typing)))
 
 abbrev pub is_rule : Scope → Option Expr → Bool
 is_rule scope None = true

@@ -15,7 +15,7 @@ use Rattle.ql_rel.specs.declared.db.Table.{Table}
 use Rattle.ql_rel.specs.declared.schema.Index.{Index}
 use Rattle.ql_rel.specs.Accepted.{rule_scope}
 use Rattle.ql_rel.specs.Limits.{key_of}
-use Rattle.ql_rel.specs.Scopes.{Scope}
+use Rattle.ql_rel.specs.declared.scope.Scope.{Scope}
 use Rattle.ql_rel.specs.Types.{checked}
 use Rattle.ql_rel.specs.WellFormed.{IsWellFormed}
 

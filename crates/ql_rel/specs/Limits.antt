@@ -13,16 +13,37 @@ use Rattle.ql_syntax.specs.declared.syntax.Expr.{Expr}
 use Rattle.ql_syntax.specs.Ink.{text_of, tokens_of}
 use Rattle.ql_syntax.specs.Lexemes.{Lexeme, is_open, is_close}
 use Rattle.ql_syntax.specs.Printing.{ink_of_expr}
-use Rattle.ql_rel.specs.declared.bounds.TheConstants.{INDEX_LIMIT, COLUMN_LIMIT, TEXT_LIMIT, BRACKET_LIMIT, ROW_LIMIT, KEY_LIMIT}
 use Rattle.ql_rel.specs.declared.db.Row.{Row}
-use Rattle.ql_rel.specs.declared.limit.TheConstants.{TABLE_LIMIT}
 use Rattle.ql_rel.specs.declared.schema.Index.{Index}
 use Rattle.ql_rel.specs.declared.schema.Schema.{Schema}
 use Rattle.ql_rel.specs.declared.schema.TableSchema.{TableSchema}
 
+-- a database has at most so many tables, and so many indexes
+abbrev pub most_tables most_indexes : ℕ
+most_tables = 4096
+most_indexes = 4096
+
+-- a table has at most so many columns
+abbrev pub most_columns : ℕ
+most_columns = 256
+
+-- the printed text of a rule or a default has at most so many bytes, and so many brackets open at once: one more is open around it in its CREATE TABLE
+abbrev pub longest_text most_brackets : ℕ
+longest_text = 16384
+most_brackets = 199
+
+-- a row has at most so many bytes, and a key of an index so many
+abbrev pub longest_row longest_key : ℕ
+longest_row = 65787
+longest_key = 1092
+
+-- the greatest id of a row
+abbrev pub last_id : ℕ
+last_id = 9223372036854775807
+
 -- the values are too long for a row
 abbrev pub row_too_long : List Value → Bool
-row_too_long values = nat_lt ROW_LIMIT (length_of_row values)
+row_too_long values = nat_lt longest_row (length_of_row values)
 
 -- the value of the column with a name, NULL where there is none
 abbrev pub value_under : List ℕ → List ColumnDef → List Value → Value
@@ -37,7 +58,7 @@ key_of columns item.Id row = v.Int k.Int64 (pos row.id)
 
 -- the value is too long for a key
 abbrev pub is_long_key : Value → Bool
-is_long_key value = nat_lt KEY_LIMIT (length_of_key value)
+is_long_key value = nat_lt longest_key (length_of_key value)
 
 -- a row of a table has a key in the index that is too long
 abbrev pub has_long_key : List ℕ → List ColumnDef → Row → Index → Bool
@@ -58,7 +79,7 @@ most_open before (t ∷ ts) =
 
 -- the printed text of an expression is too long for a rule or a default, or has too many open brackets
 unfoldable pub is_past_text : Expr → Bool
-is_past_text e = nat_lt TEXT_LIMIT (length (text_of (ink_of_expr e))) || nat_lt BRACKET_LIMIT (most_open 0 (tokens_of (ink_of_expr e)))
+is_past_text e = nat_lt longest_text (length (text_of (ink_of_expr e))) || nat_lt most_brackets (most_open 0 (tokens_of (ink_of_expr e)))
 
 abbrev pub is_past_if : Option Expr → Bool
 is_past_if None = false
@@ -70,28 +91,28 @@ is_past_column column = is_past_if column.rule || is_past_if column.default
 
 -- the columns of a table are past the limits: more than 256, or one of them is past its own
 abbrev pub are_past_columns : List ColumnDef → Bool
-are_past_columns columns = nat_lt COLUMN_LIMIT (length columns) || list_any is_past_column columns
+are_past_columns columns = nat_lt most_columns (length columns) || list_any is_past_column columns
 
 -- one table more would be past the limits
 abbrev pub is_past_table : TableSchema → Schema → Bool
-is_past_table table schema = nat_le TABLE_LIMIT (length schema.tables) || are_past_columns table.columns
+is_past_table table schema = nat_le most_tables (length schema.tables) || are_past_columns table.columns
 
 -- one column more of a table with these columns would be past the limits
 abbrev pub is_past_added : ColumnDef → List ColumnDef → Bool
-is_past_added column columns = nat_le COLUMN_LIMIT (length columns) || is_past_column column
+is_past_added column columns = nat_le most_columns (length columns) || is_past_column column
 
 -- one index more would be past the limits
 abbrev pub is_past_index : Schema → Bool
-is_past_index schema = nat_le INDEX_LIMIT (length schema.indexes)
+is_past_index schema = nat_le most_indexes (length schema.indexes)
 
 -- a table has 1 to 256 columns, with rules and defaults within their limits
 pub record IsTableWithin (table : TableSchema) : Type 0 where
   pub some : 0 < length table.columns
-  pub few : length table.columns ≤ COLUMN_LIMIT
+  pub few : length table.columns ≤ most_columns
   pub texts : AllByRecursion (λ (c : ColumnDef). is_past_column c ≡ false) table.columns
 
 -- a schema has at most 4,096 tables, each within its limits, and at most 4,096 indexes
 pub record IsWithin (schema : Schema) : Type 0 where
-  pub tables : length schema.tables ≤ TABLE_LIMIT
-  pub indexes : length schema.indexes ≤ INDEX_LIMIT
+  pub tables : length schema.tables ≤ most_tables
+  pub indexes : length schema.indexes ≤ most_indexes
   pub columns : AllByRecursion IsTableWithin schema.tables

@@ -6,7 +6,7 @@ use Rattle.lldb_base.specs.declared.trouble.Trouble.{Trouble}
 use Rattle.lldb_base.specs.declared.trouble.Trouble.TheVariants as trouble
 use Rattle.ql_value.specs.declared.value.Value.{Value}
 use Rattle.ql_syntax.specs.declared.statement.ColumnDef.{ColumnDef}
-use Rattle.ql_rel.specs.declared.bounds.TheConstants.{LAST_ID}
+use Rattle.ql_rel.specs.Limits.{last_id}
 use Rattle.ql_rel.specs.declared.db.Db.{Db}
 use Rattle.ql_rel.specs.declared.db.Row.{Row}
 use Rattle.ql_rel.specs.declared.fault.RelFault.{RelFault}
@@ -40,7 +40,7 @@ row_refusal table row schema =
 
 -- the ids are spent
 abbrev pub are_ids_spent : Db → Bool
-are_ids_spent db = nat_lt LAST_ID db.next_id
+are_ids_spent db = nat_lt last_id db.next_id
 
 -- the first refusal of a new row
 abbrev pub insert_refusal : ℕ → List Value → Db → Option RelFault

@@ -11,7 +11,7 @@ use Rattle.ql_syntax.specs.Ink.{text_of}
 use Rattle.ql_syntax.specs.Lexemes.{lexemes}
 use Rattle.ql_syntax.specs.StatementPrinting.{ink_of_statement}
 use Rattle.ql_syntax.specs.Statements.{IsRead}
-use Rattle.ql_rel.specs.declared.bounds.TheConstants.{LAST_ID}
+use Rattle.ql_rel.specs.Limits.{last_id}
 use Rattle.ql_rel.specs.declared.db.Db.{Db}
 use Rattle.ql_rel.specs.declared.db.Row.{Row}
 use Rattle.ql_rel.specs.declared.db.Table.{Table}
@@ -73,6 +73,6 @@ pub record IsWellFormed (db : Db) : Type 0 where
   pub tables : IsByName (table_names (schema_of db).tables)
   pub indexes : IsByName (index_names db.indexes)
   pub begun : 1 ≤ db.next_id
-  pub left : db.next_id ≤ LAST_ID + 1
+  pub left : db.next_id ≤ last_id + 1
   pub fresh : db.tables ≡ [] → db.next_id ≡ 1
   pub rows : AllByRecursion (HoldsRows db) db.tables
