@@ -16,7 +16,7 @@ pub use bounds::{
 };
 pub use db::{Db, Row, Rows, Table, Tables};
 pub use fault::RelFault;
-pub use laws::change_laws;
+pub use laws::{change_laws, form_laws};
 pub use limit::TABLE_LIMIT;
 pub use plan::Plan;
 pub use rel::Rel;
