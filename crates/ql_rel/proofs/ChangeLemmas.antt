@@ -52,7 +52,7 @@ have_changed next n f [] k h = tt
 have_changed next zero f (t ∷ tables) k h = (k t h.0, h.1)
 have_changed next (suc n) f (t ∷ tables) k h = (h.0, have_changed next n f tables k h.1)
 
-below_more : (next : ℕ) (rows : List Row) → AllBelow next rows → AllBelow (next + 1) rows
+pub below_more : (next : ℕ) (rows : List Row) → AllBelow next rows → AllBelow (next + 1) rows
 below_more next [] h = tt
 below_more next (r ∷ rows) h = (omega (arith, h.0), below_more next rows h.1)
 
@@ -60,11 +60,11 @@ ids_more : (next : ℕ) (tables : List Table) → AllByRecursion (HasIds next) t
 ids_more next [] h = tt
 ids_more next (t ∷ tables) h = (record { rise = h.0.rise; below = below_more next t.rows h.0.below }, ids_more next tables h.1)
 
-rise_push : (from : ℕ) (rows : List Row) (row : Row) → Rise from rows → AllBelow row.id rows → from ≤ row.id → Rise from (rows ++ row ∷ [])
+pub rise_push : (from : ℕ) (rows : List Row) (row : Row) → Rise from rows → AllBelow row.id rows → from ≤ row.id → Rise from (rows ++ row ∷ [])
 rise_push from [] row h b l = (l, tt)
 rise_push from (r ∷ rows) row h b l = (h.0, rise_push (r.id + 1) rows row h.1 b.1 (omega (arith, b.0)))
 
-below_push : (next : ℕ) (rows : List Row) (row : Row) → AllBelow next rows → row.id < next → AllBelow next (rows ++ row ∷ [])
+pub below_push : (next : ℕ) (rows : List Row) (row : Row) → AllBelow next rows → row.id < next → AllBelow next (rows ++ row ∷ [])
 below_push next [] row h l = (l, tt)
 below_push next (r ∷ rows) row h l = (h.0, below_push next rows row h.1 l)
 
@@ -77,16 +77,16 @@ have_pushed next (suc n) values (t ∷ tables) o h = (record { rise = h.0.rise; 
 pub have_inserted : (n : ℕ) (values : List Value) (db : Db) → 1 ≤ db.next_id → HaveIds db → HaveIds (inserted n values db)
 have_inserted n values db o h = have_pushed db.next_id n values db.tables o h
 
-same_id : (id : ℕ) (values : List Value) (r : Row) → (with_values id values r).id ≡ r.id
+pub same_id : (id : ℕ) (values : List Value) (r : Row) → (with_values id values r).id ≡ r.id
 same_id id values r = elim (r.id == id) as (λ b. (cond b (row_of r.id values) r).id ≡ r.id) [ true ↦ refl | false ↦ refl ]
 
-rise_values : (from id : ℕ) (values : List Value) (rows : List Row) → Rise from rows → Rise from (map (with_values id values) rows)
+pub rise_values : (from id : ℕ) (values : List Value) (rows : List Row) → Rise from rows → Rise from (map (with_values id values) rows)
 rise_values from id values [] h = tt
 rise_values from id values (r ∷ rows) h =
     let same = same_id id values r in
     (subst (λ k. from ≤ k) (sym same) h.0, subst (λ k. Rise (k + 1) (map (with_values id values) rows)) (sym same) (rise_values (r.id + 1) id values rows h.1))
 
-below_values : (next id : ℕ) (values : List Value) (rows : List Row) → AllBelow next rows → AllBelow next (map (with_values id values) rows)
+pub below_values : (next id : ℕ) (values : List Value) (rows : List Row) → AllBelow next rows → AllBelow next (map (with_values id values) rows)
 below_values next id values [] h = tt
 below_values next id values (r ∷ rows) h = (subst (λ k. k < next) (sym (same_id id values r)) h.0, below_values next id values rows h.1)
 
@@ -98,13 +98,13 @@ rise_down : (a b : ℕ) (rows : List Row) → b ≤ a → Rise a rows → Rise b
 rise_down a b [] l h = tt
 rise_down a b (r ∷ rows) l h = (omega (arith, h.0), h.1)
 
-below_filter : (next : ℕ) (p : Row → Bool) (rows : List Row) → AllBelow next rows → AllBelow next (filter p rows)
+pub below_filter : (next : ℕ) (p : Row → Bool) (rows : List Row) → AllBelow next rows → AllBelow next (filter p rows)
 below_filter next p [] h = tt
 below_filter next p (r ∷ rows) h =
     let rest = below_filter next p rows h.1 in
     elim (p r) as (λ b. AllBelow next (cond b (r ∷ filter p rows) (filter p rows))) [ true ↦ (h.0, rest) | false ↦ rest ]
 
-rise_filter : (from : ℕ) (p : Row → Bool) (rows : List Row) → Rise from rows → Rise from (filter p rows)
+pub rise_filter : (from : ℕ) (p : Row → Bool) (rows : List Row) → Rise from rows → Rise from (filter p rows)
 rise_filter from p [] h = tt
 rise_filter from p (r ∷ rows) h =
     let rest = rise_filter (r.id + 1) p rows h.1 in

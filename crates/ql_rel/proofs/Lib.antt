@@ -13,3 +13,4 @@ pub mod PlanFits
 pub mod SelectFits
 pub mod EffectExamples
 mod ChangeLemmas
+mod FormLemmas

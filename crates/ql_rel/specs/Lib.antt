@@ -23,3 +23,4 @@ pub mod WellFormed
 pub mod Lawful
 pub mod Rels
 pub mod ChangeLaws
+pub mod FormLaws

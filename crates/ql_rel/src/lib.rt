@@ -21,7 +21,7 @@ pub use bounds::{
 pub use checked::{Checked, CheckedList, Front, Literal};
 pub use db::{Db, Row, Rows, Table, Tables};
 pub use fault::RelFault;
-pub use laws::change_laws;
+pub use laws::{change_laws, form_laws};
 pub use limit::TABLE_LIMIT;
 pub use plan::Plan;
 pub use rel::Rel;

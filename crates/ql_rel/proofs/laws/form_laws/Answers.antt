@@ -1,0 +1,11 @@
+use Rattle.ql_rel.proofs.FormLemmas.{well_empty, well_inserted, well_changed, well_removed, well_truncated}
+use Rattle.ql_rel.proofs.laws.form_laws.Goals as goal
+
+pub returns : goal.returns
+returns c = record {
+  empty = well_empty;
+  insert = well_inserted;
+  change = well_changed;
+  remove = well_removed;
+  truncate = well_truncated;
+}
