@@ -77,6 +77,15 @@ impl Batch {
         self.size
     }
 
+    /// Sets the length that the content is to have.
+    pub fn set_length(&mut self, length: u64)
+        requires { end_of 0 self.old.pieces ≤ length }
+        ensures pieces { self.new.pieces ≡ self.old.pieces }
+        ensures size { self.new.size ≡ length }
+    {
+        self.size = length;
+    }
+
     /// How many bytes the pieces have.
     #[tactic(auto, using(crate::proofs::Pieces::piece_counted))]
     pub fn bytes(&self) -> u64

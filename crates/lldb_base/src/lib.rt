@@ -21,6 +21,7 @@ pub use inner::InnerFiler;
 pub use laws::batch_laws;
 pub use mem_heap::MemHeap;
 pub use memory::{MemFiler, put_piece};
+pub use texts::Texts;
 pub use trouble::{Refused, Trouble};
 
 #[cfg(test)]

@@ -4,9 +4,9 @@ ghost use Rattle.std.specs.Prelude.{◌≡◌, [], Some, None, refl};
 use ql_edge::{Bytes, DeviceFault, Shows};
 use std::alloc::Global;
 
-/// What a filer or a heap in memory was shown and warned. It never fails.
+/// What a layer in memory was shown and warned. It never fails.
 #[derive(Debug, Drop)]
-pub(crate) struct Texts {
+pub struct Texts {
     shown: Bytes,
     warned: Bytes,
 }

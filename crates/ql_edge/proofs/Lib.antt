@@ -1,1 +1,4 @@
 pub mod Whole
+pub mod Plays
+pub mod Records
+pub mod Machines

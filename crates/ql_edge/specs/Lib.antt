@@ -1,7 +1,14 @@
 pub mod Answers
 pub mod Cause
+pub mod Disk
+pub mod Events
 pub mod Frame
+pub mod HostMachine
+pub mod Images
+pub mod MemDisk
 pub mod MemMachine
 pub mod Names
+pub mod Reshown
+pub mod Stops
 pub mod Told
 pub mod formers

@@ -1,6 +1,7 @@
 //! Lists that contracts see as their items.
-ghost use Rattle.std.specs.Prelude.{◌≡◌, [], ◌∷◌, ◌++◌, ◌==◌, ◌-◌, length, take, slice_get, IfOk, OnOk, OnErr};
+ghost use Rattle.std.specs.Prelude.{◌≡◌, ◌≤◌, [], ◌∷◌, ◌++◌, ◌==◌, ◌-◌, length, take, slice_get, IfOk, OnOk, OnErr};
 ghost use Rattle.std.specs.Option.{option_copied};
+ghost use Rattle.ql_edge.specs.Disk.{put};
 
 use crate::NoMemory;
 use std::alloc::Global;
@@ -142,6 +143,20 @@ impl<T: Copy> Items<T> {
         ensures err { OnErr result (self.new ≡ self.old) }
     {
         self.items.extend_from_slice(more)?;
+        Ok(())
+    }
+}
+
+impl Items<u8> {
+    /// Puts a piece at a place, over what stands there and past the end.
+    pub fn put(&mut self, at: usize, piece: &[u8]) -> Result<(), NoMemory>
+        requires { at ≤ length self.old }
+        ensures ok { OnOk result (self.new ≡ put at piece.now self.old) }
+        ensures err { OnErr result (self.new ≡ self.old) }
+    {
+        let over = piece.len().min(self.items.len() - at);
+        self.items.extend_from_slice(&piece[over..])?;
+        self.items[at..at + over].copy_from_slice(&piece[..over]);
         Ok(())
     }
 }

@@ -1,0 +1,36 @@
+-- What single changes do where a row of blocks lies in a content.
+use Rattle.std.specs.Prelude.{◌≡◌, ℕ, ◌+◌, List, ◌∷◌, ◌++◌, Option, IfSome, IsSomeAnd}
+use Rattle.lldb_atoms.specs.Blocks.{Extent, Free, Hole}
+use Rattle.lldb_atoms.specs.Rows.{atoms_in}
+use Rattle.lldb_blocks.specs.Laid.{Spells, Lays}
+use Rattle.lldb_alloc.specs.declared.links.FreeBlock.{FreeBlock}
+
+-- what a change made of a content that is told; it stays told
+abbrev pub Turns : Option (List ℕ) → Option (List ℕ) → (List ℕ → List ℕ → Type 0) → Type 0
+Turns before after R = IfSome before (λ c. IsSomeAnd after (λ d. R c d))
+
+-- a free block has so many atoms and these links
+pub record IsFree (atoms previous next : ℕ) (free : FreeBlock) : Type 0 where
+  pub atoms_are : free.atoms ≡ atoms
+  pub previous_is : free.previous ≡ previous
+  pub next_is : free.next ≡ next
+
+-- the free block at an atom is this one, whatever the row
+abbrev pub HasFree : ℕ → FreeBlock → List ℕ → Type 0
+HasFree at free c = (h p n : ℕ → ℕ) (x y : List Extent) (s : ℕ) → at ≡ 8 + atoms_in x → Spells h p n c (x ++ Free s ∷ y) → IsFree s (p at) (n at) free
+
+-- no free block begins at an atom, in no row
+abbrev pub LacksFree : ℕ → List ℕ → Type 0
+LacksFree at c = (h p n : ℕ → ℕ) (x y : List Extent) (s : ℕ) → at ≡ 8 + atoms_in x → Spells h p n c (x ++ Free s ∷ y) → ⊥
+
+-- no free block that is listed begins at an atom
+abbrev pub LacksListed : ℕ → List ℕ → Type 0
+LacksListed at c = (x y : List Extent) (s : ℕ) → at ≡ 8 + atoms_in x → Lays c (x ++ Free s ∷ y) → ⊥
+
+-- no hole of so many atoms begins at an atom
+abbrev pub LacksHole : ℕ → ℕ → List ℕ → Type 0
+LacksHole at atoms c = (x y : List Extent) → at ≡ 8 + atoms_in x → Lays c (x ++ Hole atoms ∷ y) → ⊥
+
+-- no row lies in a content
+abbrev pub LacksRow : List ℕ → Type 0
+LacksRow c = (row : List Extent) → Lays c row → ⊥

@@ -1,0 +1,17 @@
+-- What calls on a filer leave as it was.
+use Rattle.std.specs.Prelude.{◌≡◌, ℕ, Bool, List, Option}
+
+-- a call left a filer's levels and whatever no change of its content touches: these tell it of a filer
+pub record KeepsLevels {S T L : Type 0} (saved_of : S → List (Option (List ℕ))) (sizes_of : S → List ℕ) (limit_of : S → ℕ) (sound_of : S → Bool) (told_of : S → T) (left_of : S → L) (fixed_of : S → List ℕ) (before now : S) : Type 0 where
+  pub saved : saved_of now ≡ saved_of before
+  pub saved_sizes : sizes_of now ≡ sizes_of before
+  pub limit : limit_of now ≡ limit_of before
+  pub sound : sound_of now ≡ sound_of before
+  pub told : told_of now ≡ told_of before
+  pub left : left_of now ≡ left_of before
+  pub fixed : fixed_of now ≡ fixed_of before
+
+-- a call only read
+pub record KeepsContent {S : Type 0} (content_of : S → Option (List ℕ)) (size_of : S → ℕ) (before now : S) : Type 0 where
+  pub content : content_of now ≡ content_of before
+  pub size : size_of now ≡ size_of before

@@ -1,0 +1,5 @@
+pub mod Frames
+pub mod Reads
+pub mod Told
+pub mod Changes
+pub mod Room

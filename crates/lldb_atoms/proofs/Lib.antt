@@ -1,0 +1,13 @@
+pub mod Examples
+pub mod AsBytes
+pub mod Judged
+pub mod Spoken
+pub mod Put
+pub mod ReadHeads
+pub mod Classes
+pub mod Listed
+pub mod Spells
+pub mod Says
+pub mod Tiled
+pub mod Tables
+pub mod Rising

@@ -1,0 +1,17 @@
+pub mod Chains
+pub mod Looks
+pub mod Listings
+pub mod Maps
+pub mod Heaps
+pub mod Contents
+pub mod Places
+pub mod Tilings
+pub mod Writes
+pub mod Lays
+pub mod Decoded
+pub mod Sounds
+pub mod Bridges
+pub mod Rests
+pub mod Calls
+pub mod Moves
+pub mod Readings

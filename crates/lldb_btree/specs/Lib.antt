@@ -1,0 +1,11 @@
+pub mod Pairs
+pub mod Nodes
+pub mod Bounds
+pub mod Reading
+pub mod Decoding
+pub mod Footprints
+pub mod Trees
+pub mod Frames
+pub mod Laws
+pub mod Changes
+pub mod Splicing

@@ -1,0 +1,15 @@
+//! The verifier: what is wrong with a content of blocks, in order.
+#![tactic(auto)]
+
+mod bits;
+mod finding;
+mod laws;
+mod log;
+
+pub use bits::Bits;
+pub use finding::{Finding, Stats, VerifyFault};
+pub use laws::findings_laws;
+pub use log::{AllLog, FaultLog, FirstLog};
+
+#[cfg(test)]
+mod tests;

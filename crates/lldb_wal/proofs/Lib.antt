@@ -1,0 +1,9 @@
+pub mod Fronts
+pub mod Heads
+pub mod Held
+pub mod OneState
+pub mod ReadParts
+pub mod ReadWhole
+pub mod Spoiled
+pub mod Steps
+pub mod Windows
