@@ -4,3 +4,7 @@ pub mod OrderLaws
 pub mod RefusalLaws
 pub mod Residues
 pub mod Shown
+pub mod RowFields
+pub mod RowLaws
+pub mod RowLoop
+pub mod KeyLaws

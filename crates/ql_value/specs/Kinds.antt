@@ -10,6 +10,14 @@ is_integer k.Text = false
 is_integer k.Blob = false
 is_integer _ = true
 
+-- the kinds whose numbers have a sign
+abbrev pub is_signed : Kind → Bool
+is_signed k.Int8 = true
+is_signed k.Int16 = true
+is_signed k.Int32 = true
+is_signed k.Int64 = true
+is_signed _ = false
+
 -- the kind of truths
 abbrev pub is_truth : Kind → Bool
 is_truth k.Bool = true

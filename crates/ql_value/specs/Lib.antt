@@ -10,3 +10,8 @@ pub mod OrderLaws
 pub mod Print
 pub mod Refusal
 pub mod RefusalLaws
+pub mod Rows
+pub mod RowReading
+pub mod RowLaws
+pub mod Keys
+pub mod KeyLaws

@@ -56,6 +56,14 @@ HasKind k.Text (v.Text _) = Unit {0}
 HasKind k.Blob (v.Blob _) = Unit {0}
 HasKind _ _ = ⊥
 
+-- the number of an integer is one of its kind
+abbrev pub IsValue : Value → Type 0
+IsValue (v.Int kind z) = IsInteger kind × HasNumber kind z
+IsValue v.Null = Unit {0}
+IsValue (v.Bool _) = Unit {0}
+IsValue (v.Text _) = Unit {0}
+IsValue (v.Blob _) = Unit {0}
+
 -- the number is one of the kind, as a test
 abbrev pub has_number : Kind → ℤ → Bool
 has_number kind z = int_le (least kind) z && int_le z (greatest kind)

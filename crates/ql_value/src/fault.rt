@@ -1,6 +1,7 @@
-//! Why an operation on values gives none.
+//! Why an operation on values gives none, and why bytes are no row.
 
 ghost use Rattle.std.specs.Prelude.{◌≡◌};
+ghost use Rattle.ql_value.specs.declared.fault.RowFault.TheVariants as row;
 ghost use Rattle.ql_value.specs.declared.fault.ValueFault.TheVariants as variant;
 
 use ql_edge::NoMemory;
@@ -23,5 +24,22 @@ impl From<NoMemory> for ValueFault {
 
     fn from(_: NoMemory) -> ValueFault {
         ValueFault::NoMemory
+    }
+}
+
+/// Why bytes give no row.
+#[derive(Clone, Copy, Debug, PartialEq, Eq)]
+pub enum RowFault {
+    /// They are no row of these kinds.
+    BadRow,
+    /// A growth was refused.
+    NoMemory,
+}
+
+impl From<NoMemory> for RowFault {
+    ghost from_gives = { λ _ fault. fault ≡ row.NoMemory };
+
+    fn from(_: NoMemory) -> RowFault {
+        RowFault::NoMemory
     }
 }

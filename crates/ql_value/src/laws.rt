@@ -1,9 +1,11 @@
 //! Laws by which a reader checks the definitions.
 
 ghost use Rattle.ql_value.specs.ArithLaws.{ArithIsExact};
+ghost use Rattle.ql_value.specs.KeyLaws.{KeyLaws};
 ghost use Rattle.ql_value.specs.KindLaws.{KindLaws};
 ghost use Rattle.ql_value.specs.OrderLaws.{OrderLaws};
 ghost use Rattle.ql_value.specs.RefusalLaws.{RefusalLaws};
+ghost use Rattle.ql_value.specs.RowLaws.{RowLaws};
 
 /// `compare` is a total order, tells two values of one kind apart, and puts NULL first. The call does nothing.
 pub fn order_laws()
@@ -26,4 +28,15 @@ pub fn kind_laws()
 /// call does nothing.
 pub fn refusal_laws()
     ensures { RefusalLaws }
+{}
+
+/// Bytes spell one row of some kinds at most, and a row has as many bytes as `row_length` says. The call does nothing.
+pub fn row_laws()
+    ensures { RowLaws }
+{}
+
+/// On values of one kind the order of keys is that of the values, also where other bytes stand behind them; equal keys
+/// mean equal values; and a key has as many bytes as `key_length` says. The call does nothing.
+pub fn key_laws()
+    ensures { KeyLaws }
 {}

@@ -4,19 +4,23 @@
 mod arithmetic;
 mod conversion;
 mod fault;
+mod key;
 mod laws;
 mod length;
 mod operator;
 mod order;
 mod print;
 mod refusal;
+mod row;
+mod row_reading;
 mod value;
 mod wrapping;
 
 pub use arithmetic::arith;
 pub use conversion::{convert, fit};
-pub use fault::ValueFault;
-pub use laws::{arith_laws, kind_laws, order_laws, refusal_laws};
+pub use fault::{RowFault, ValueFault};
+pub use key::encode_key;
+pub use laws::{arith_laws, key_laws, kind_laws, order_laws, refusal_laws, row_laws};
 pub use length::{key_length, row_length};
 pub use operator::{BinOp, UnOp, UnOps};
 pub use order::compare;
@@ -25,7 +29,6 @@ pub use refusal::{
     AGGREGATE, AMBIGUOUS, CONSTANT_RANGE, COUNT, DIVIDE, EXISTS, LATER, NEGATIVE_COUNT, NO_COLUMN,
     NO_TABLE, RANGE, Refusal, TYPE,
 };
+pub use row::encode_row;
+pub use row_reading::{Kinds, decode_row};
 pub use value::{Kind, Value, Values, copy_value};
-
-#[cfg(test)]
-mod tests;

@@ -35,6 +35,13 @@ impl Kind {
         }
     }
 
+    /// Whether its values are numbers with a sign.
+    pub fn is_signed(self) -> bool
+        ensures { result ≡ spec.is_signed self }
+    {
+        matches!(self, Kind::Int8 | Kind::Int16 | Kind::Int32 | Kind::Int64)
+    }
+
     /// Whether its values are truths.
     pub fn is_truth(self) -> bool
         ensures { result ≡ spec.is_truth self }

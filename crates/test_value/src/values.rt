@@ -1,8 +1,12 @@
+//! Arithmetic, order, conversions, lengths and printing of values.
 ghost use Rattle.ql_value.specs.Arith.{IsArithmetic};
 ghost use Rattle.ql_value.specs.Number.{IsInteger};
 
-use super::*;
 use ql_edge::{Bytes, NoMemory};
+use ql_value::{
+    BinOp, Kind, Value, ValueFault, Values, arith, arith_laws, compare, convert, copy_value, fit,
+    key_length, kind_laws, order_laws, print_value, refusal_laws, row_length,
+};
 use std::alloc::Global;
 use std::cmp::Ordering;
 use std::test::Fail;
@@ -321,13 +325,6 @@ fn numbers(rt: HostRuntime) -> Result<(), Fail> {
     Ok(())
 }
 
-/// A list of these bytes.
-fn bytes_of(alloc: Global, bytes: &[u8]) -> Result<Bytes, NoMemory> {
-    let mut list = Bytes::new(alloc);
-    list.extend(bytes)?;
-    Ok(list)
-}
-
 /// One value of each sort, by its place.
 fn sample(alloc: Global, place: u8) -> Result<Value, NoMemory> {
     Ok(match place {
@@ -336,9 +333,9 @@ fn sample(alloc: Global, place: u8) -> Result<Value, NoMemory> {
         2 => Value::Bool(true),
         3 => Value::Int(Kind::Int64, -9223372036854775808),
         4 => Value::Int(Kind::Uint64, 18446744073709551615),
-        5 => Value::Text(bytes_of(alloc, b"")?),
-        6 => Value::Text(bytes_of(alloc, b"a\"b\\c\nd\re\tf\x00\x1f\x7f\x80\xff ~")?),
-        _ => Value::Blob(bytes_of(alloc, b"a\"b\\c\nd\re\tf\x00\x1f\x7f\x80\xff ~")?),
+        5 => Value::Text(Bytes::from_slice(alloc, b"")?),
+        6 => Value::Text(Bytes::from_slice(alloc, b"a\"b\\c\nd\re\tf\x00\x1f\x7f\x80\xff ~")?),
+        _ => Value::Blob(Bytes::from_slice(alloc, b"a\"b\\c\nd\re\tf\x00\x1f\x7f\x80\xff ~")?),
     })
 }
 
@@ -413,11 +410,11 @@ fn order(rt: HostRuntime) -> Result<(), Fail> {
     }
     for row in BYTES.iter() {
         let (left, right, wanted) = *row;
-        let first = Value::Text(bytes_of(rt.alloc(), left)?);
-        let second = Value::Text(bytes_of(rt.alloc(), right)?);
+        let first = Value::Text(Bytes::from_slice(rt.alloc(), left)?);
+        let second = Value::Text(Bytes::from_slice(rt.alloc(), right)?);
         assert_eq!(rt; compare(&first, &second), wanted, "strings");
-        let first = Value::Blob(bytes_of(rt.alloc(), left)?);
-        let second = Value::Blob(bytes_of(rt.alloc(), right)?);
+        let first = Value::Blob(Bytes::from_slice(rt.alloc(), left)?);
+        let second = Value::Blob(Bytes::from_slice(rt.alloc(), right)?);
         assert_eq!(rt; compare(&first, &second), wanted, "blobs");
     }
     Ok(())
@@ -515,8 +512,8 @@ fn conversions(rt: HostRuntime) -> Result<(), Fail> {
 #[test]
 fn strings(rt: HostRuntime) -> Result<(), Fail> {
     let mut out = Bytes::new(rt.alloc());
-    let ab = Value::Text(bytes_of(rt.alloc(), b"ab")?);
-    let c = Value::Text(bytes_of(rt.alloc(), b"\xc3")?);
+    let ab = Value::Text(Bytes::from_slice(rt.alloc(), b"ab")?);
+    let c = Value::Text(Bytes::from_slice(rt.alloc(), b"\xc3")?);
     let one = Value::Int(Kind::Int8, 1);
     show(arith(rt.alloc(), BinOp::Add, &ab, &c), &mut out)?;
     show(arith(rt.alloc(), BinOp::Add, &ab, &Value::Null), &mut out)?;

@@ -1,6 +1,7 @@
+//! The tokens of a text, and what their literals mean.
 ghost use Rattle.ql_lex.specs.Tokens.{IsIn};
 
-use crate::{Token, TokenKind, number_of, text_of, tokens};
+use ql_lex::{Token, TokenKind, number_of, text_of, tokens};
 use std::alloc::Global;
 use std::fmt::Write;
 use std::test::Fail;
