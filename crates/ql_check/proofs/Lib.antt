@@ -1,4 +1,3 @@
-pub mod Fronts
 pub mod Prefixes
 pub mod Turns
 pub mod Stops

@@ -4,15 +4,15 @@ use Rattle.ql_value.specs.declared.operator.UnOp.{UnOp}
 use Rattle.ql_syntax.specs.declared.typing.Typing.{Typing}
 use Rattle.ql_syntax.specs.Typing.{prefix_type, prefixed_type}
 use Rattle.ql_rel.specs.declared.checked.Checked.{Checked}
-use Rattle.ql_rel.specs.Operands.{ends_with_minus, but_last, under, ops_by_table}
+use Rattle.ql_rel.specs.Operands.{ends_with_minus, but_last, ops_before, ops_by_table}
 
-pub under_none : (ops : List UnOp) (c : Checked) → length ops ≤ 0 → under ops c ≡ Ok c
-under_none [] c h = refl
-under_none (o ∷ ops) c h = absurd (omega (arith, h))
+pub none_before : (ops : List UnOp) (c : Checked) → length ops ≤ 0 → ops_before ops c ≡ Ok c
+none_before [] c h = refl
+none_before (o ∷ ops) c h = absurd (omega (arith, h))
 
-pub under_some : (ops : List UnOp) (c : Checked) → 0 < length ops → under ops c ≡ ops_by_table ops c
-under_some [] c h = absurd (omega (arith, h))
-under_some (o ∷ ops) c h = refl
+pub some_before : (ops : List UnOp) (c : Checked) → 0 < length ops → ops_before ops c ≡ ops_by_table ops c
+some_before [] c h = absurd (omega (arith, h))
+some_before (o ∷ ops) c h = refl
 
 pub last_prefix : (front : List UnOp) (o : UnOp) (t : Typing) → prefixed_type (front ++ o ∷ []) t ≡ prefixed_type front (prefix_type o t)
 last_prefix [] o t = refl

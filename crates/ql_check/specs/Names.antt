@@ -4,10 +4,8 @@ use Rattle.std.specs.Borrow.{Bor}
 use Rattle.ql_syntax.specs.declared.typed.Typed.TheVariants as t
 use Rattle.ql_rel.specs.declared.checked.Checked.{Checked}
 use Rattle.ql_rel.specs.declared.schema.TableSchema.{TableSchema}
-use Rattle.ql_rel.specs.declared.scope.Found.{Found}
+use Rattle.ql_rel.specs.declared.scope.RowPlace.{RowPlace}
 use Rattle.ql_rel.specs.Checked.{of_type}
-use Rattle.ql_check.specs.declared.fault.CheckFault.{CheckFault}
-use Rattle.ql_check.specs.declared.fault.CheckFault.TheVariants as fault
 use Rattle.ql_check.specs.declared.scope.Hit.{Hit}
 use Rattle.ql_check.specs.declared.scope.Hit.TheVariants as hit
 
@@ -22,21 +20,16 @@ table_of None = None
 table_of (Some table) = Some table.now
 
 -- an expression that is a place
-abbrev pub place_of : Found → Checked
+abbrev pub place_of : RowPlace → Checked
 place_of f = of_type f.typing (t.Place f.at)
 
 -- two places or more
-abbrev pub AreSeveral : List Found → Type 0
+abbrev pub AreSeveral : List RowPlace → Type 0
 AreSeveral (f ∷ g ∷ more) = Unit {0}
 AreSeveral _ = ⊥
 
 -- how many places there are, and the only one
-abbrev pub Hits : Hit → List Found → Type 0
+abbrev pub Hits : Hit → List RowPlace → Type 0
 Hits hit.Nothing list = list ≡ []
 Hits (hit.One found) list = list ≡ found ∷ []
 Hits hit.Several list = AreSeveral list
-
--- the refusal with a number that shows a name, or memory ran out
-abbrev pub IsRefusedAt : ℕ → List ℕ → CheckFault → Type 0
-IsRefusedAt number name (fault.Refused r) = r ≡ record { number = number; name = name }
-IsRefusedAt number name fault.NoMemory = Unit {0}

@@ -1,7 +1,7 @@
 //! Whether an aggregate stands in a resolved expression.
 
 ghost use Rattle.std.specs.Prelude.{◌≡◌, map};
-ghost use Rattle.ql_rel.specs.Aggregates as spec;
+ghost use Rattle.ql_syntax.specs.Aggregates as spec;
 
 use ql_syntax::{Typed, TypedLink, TypedLinks, Typeds};
 

@@ -9,13 +9,12 @@ ghost use Rattle.ql_check.specs.Groups.{test_of};
 
 use crate::CheckFault;
 use crate::checked::{kind_or_int64, literal_in, of_type, require_type};
-use crate::fault::refused;
 use crate::parts::{first_kind, meet_all, meet_each, trees};
 use crate::table::{Group, among, given_type, meet, truth_of};
 use ql_edge::Boxed;
 use ql_rel::{Checked, CheckedList};
 use ql_syntax::{Function, Typed, Typing};
-use ql_value::{AGGREGATE, COUNT, Kind};
+use ql_value::{AGGREGATE, COUNT, Kind, Refusal};
 use std::alloc::Global;
 
 /// A conversion by the table of operators.
@@ -131,21 +130,11 @@ pub(crate) fn row_call(
     ensures { Gives (spec.row_call function parts) result }
 {
     if !takes(function, parts.len()) {
-        return Err(refused(alloc, COUNT));
+        return Err(CheckFault::Refused(Refusal::new(alloc, COUNT)));
     }
     match function {
         Function::Coalesce => coalesce_of(alloc, parts),
         _ => call_by_table(alloc, function, parts),
-    }
-}
-
-/// Whether a function gives a value of the rows of a group.
-pub fn is_aggregate(function: Function) -> bool
-    ensures { result ≡ spec.is_aggregate function }
-{
-    match function {
-        Function::Count | Function::Sum | Function::Avg | Function::Min | Function::Max => true,
-        _ => false,
     }
 }
 
@@ -184,7 +173,7 @@ fn aggregate_of(
     ensures { Gives (spec.aggregate_first function (test_of group) part) result }
 {
     let Some(part) = part else {
-        return Err(refused(alloc, COUNT));
+        return Err(CheckFault::Refused(Refusal::new(alloc, COUNT)));
     };
     let typing = require_type(alloc, among(group, part.typing))?;
     let kind = kind_or_int64(typing);
@@ -211,7 +200,7 @@ fn group_value(
         Function::Count => count_of(alloc, part),
         Function::Sum | Function::Avg => aggregate_of(alloc, function, Group::Integers, part),
         Function::Min | Function::Max => aggregate_of(alloc, function, Group::Ordered, part),
-        _ => Err(refused(alloc, COUNT)),
+        _ => Err(CheckFault::Refused(Refusal::new(alloc, COUNT))),
     }
 }
 
@@ -226,10 +215,10 @@ pub(crate) fn group_call(
     ensures { Gives (spec.allowed_call allowed function parts) result }
 {
     if !allowed {
-        return Err(refused(alloc, AGGREGATE));
+        return Err(CheckFault::Refused(Refusal::new(alloc, AGGREGATE)));
     }
     if !takes(function, parts.len()) {
-        return Err(refused(alloc, COUNT));
+        return Err(CheckFault::Refused(Refusal::new(alloc, COUNT)));
     }
     group_value(alloc, function, first(parts))
 }

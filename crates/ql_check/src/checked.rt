@@ -6,24 +6,30 @@ ghost use Rattle.ql_rel.specs.Checked as spec;
 ghost use Rattle.ql_check.specs.Gives.{Gives};
 
 use crate::CheckFault;
-use crate::fault::refused;
 use crate::table::same_kind;
 use ql_edge::Boxed;
 use ql_rel::{Checked, Literal};
 use ql_syntax::{Typed, Typing};
-use ql_value::{CONSTANT_RANGE, Kind, TYPE, Value, convert, fit};
+use ql_value::{CONSTANT_RANGE, Kind, Refusal, TYPE, Value, convert, fit};
 use std::alloc::Global;
+
+/// An expression that is no literal.
+pub(crate) fn no_literal(untyped: bool, typing: Typing, tree: Typed) -> Checked
+    ensures { result ≡ spec.no_literal untyped typing tree }
+{
+    Checked {
+        literal: None,
+        untyped,
+        typing,
+        tree,
+    }
+}
 
 /// An expression that has a type of its own.
 pub(crate) fn of_type(typing: Typing, tree: Typed) -> Checked
     ensures { result ≡ spec.of_type typing tree }
 {
-    Checked {
-        literal: None,
-        untyped: false,
-        typing,
-        tree,
-    }
+    no_literal(false, typing, tree)
 }
 
 /// The number that a literal means.
@@ -86,7 +92,7 @@ pub(crate) fn literal_in(alloc: Global, kind: Kind, literal: Literal) -> Result<
 {
     match fit(kind, number_of(literal)) {
         Ok(value) => Ok(of_type(Typing::OfKind(kind), Typed::Constant(value))),
-        Err(_) => Err(refused(alloc, CONSTANT_RANGE)),
+        Err(_) => Err(CheckFault::Refused(Refusal::new(alloc, CONSTANT_RANGE))),
     }
 }
 
@@ -161,7 +167,7 @@ pub(crate) fn require_type(alloc: Global, typing: Typing) -> Result<Typing, Chec
     ensures { Gives (spec.require_type typing) result }
 {
     match typing {
-        Typing::Ill => Err(refused(alloc, TYPE)),
+        Typing::Ill => Err(CheckFault::Refused(Refusal::new(alloc, TYPE))),
         other => Ok(other),
     }
 }

@@ -4,24 +4,23 @@ ghost use Rattle.std.specs.Prelude.{◌≡◌, Ok, map};
 ghost use Rattle.ql_rel.specs.Answers.{refused as spec_refused, then_with};
 ghost use Rattle.ql_rel.specs.Calls.{convert_to as spec_convert_to};
 ghost use Rattle.ql_rel.specs.Checked.{in_brackets as spec_in_brackets};
-ghost use Rattle.ql_rel.specs.Operands.{front_of as spec_front_of, add_step, add_steps, whole as spec_whole, apply_ops as spec_apply_ops, null_test as spec_null_test};
+ghost use Rattle.ql_rel.specs.Operands.{add_step, add_steps, apply_ops as spec_apply_ops, null_test as spec_null_test};
 ghost use Rattle.ql_rel.specs.Types as spec;
 ghost use Rattle.ql_check.specs.Forms.{IsBetween, IsChain, IsIn};
 ghost use Rattle.ql_check.specs.Gives.{Gives};
 ghost use Rattle.ql_check.specs.Names.{bytes_of};
 
 use crate::CheckFault;
-use crate::call::{convert_to, group_call, is_aggregate, row_call};
+use crate::call::{convert_to, group_call, row_call};
+use crate::chain::operation;
 use crate::checked::{in_brackets, literal_of, of_type};
-use crate::fault::refused;
-use crate::front::{add_link, front_of, whole};
 use crate::predicate::{between, in_list, null_test};
 use crate::prefix::apply_ops;
 use crate::scope::{column_of, id_of_all, id_of_set};
 use ql_edge::{Boxed, Bytes, Name};
-use ql_rel::{Checked, CheckedList, Front, Literal, Scope};
+use ql_rel::{Checked, CheckedList, Literal, Scope};
 use ql_syntax::{Expr, Exprs, Function, Link, Links, Typed, Typing};
-use ql_value::{COUNT, Kind, LATER, TYPE, UnOp, Value};
+use ql_value::{COUNT, Kind, LATER, Refusal, TYPE, UnOp, Value};
 use std::alloc::Global;
 
 /// The bytes of a name, if there is one.
@@ -264,7 +263,7 @@ fn check_in_select(
         (λ c. spec_refused LATER)) result }
 {
     check_expr(alloc, part, scope, aggregates)?;
-    Err(refused(alloc, LATER))
+    Err(CheckFault::Refused(Refusal::new(alloc, LATER)))
 }
 
 /// `part IS NULL`
@@ -295,29 +294,29 @@ fn check_links(
     first: Checked,
 ) -> Result<Checked, CheckFault>
     ensures { let steps = spec.steps aggregates (map (spec.judge_link scope.now) links.now) in
-        Gives (then_with (add_steps (spec_front_of first) steps) (λ g. Ok (spec_whole g))) result }
+        Gives (add_steps first steps) result }
 {
-    let mut front = front_of(alloc, first);
+    let mut before = first;
     'links: for link in links.as_slice() {
-        front = check_link(alloc, link, scope, aggregates, front)?;
+        before = check_link(alloc, link, scope, aggregates, before)?;
     }
-    whole(alloc, front)
+    Ok(before)
 }
 
-/// A link behind the front of a chain.
+/// A link behind all that stands before it in a chain.
 #[cycle(check)]
 fn check_link(
     alloc: Global,
     link: &Link,
     scope: &Scope,
     aggregates: bool,
-    front: Front,
-) -> Result<Front, CheckFault>
-    ensures { Gives (add_step front (spec.step_of aggregates (spec.judge_link scope.now link.now)))
+    before: Checked,
+) -> Result<Checked, CheckFault>
+    ensures { Gives (add_step before (spec.step_of aggregates (spec.judge_link scope.now link.now)))
         result }
 {
     let part = check_expr(alloc, &link.part, scope, aggregates)?;
-    add_link(alloc, link.op, front, part)
+    operation(alloc, link.op, before, part)
 }
 
 /// Expressions from left to right.
@@ -354,7 +353,7 @@ fn call(
     if is_id(function) {
         return id_call(alloc, parts, scope, aggregates);
     }
-    if is_aggregate(function) {
+    if function.is_aggregate() {
         let parts = check_exprs(alloc, parts, scope, false)?;
         return group_call(alloc, aggregates, function, parts);
     }
@@ -381,7 +380,7 @@ fn id_call(
         return id_of_part(alloc, &parts.as_slice()[0], scope, aggregates);
     }
     check_exprs(alloc, parts, scope, aggregates)?;
-    Err(refused(alloc, COUNT))
+    Err(CheckFault::Refused(Refusal::new(alloc, COUNT)))
 }
 
 /// `id` of a part.
@@ -399,7 +398,7 @@ fn id_of_part(
         Some(name) => id_of_set(alloc, scope, name),
         None => {
             check_expr(alloc, part, scope, aggregates)?;
-            Err(refused(alloc, TYPE))
+            Err(CheckFault::Refused(Refusal::new(alloc, TYPE)))
         }
     }
 }

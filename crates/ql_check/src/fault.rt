@@ -1,11 +1,10 @@
 //! Why a statement has no plan.
 
-ghost use Rattle.std.specs.Prelude.{◌≡◌, []};
+ghost use Rattle.std.specs.Prelude.{◌≡◌};
 ghost use Rattle.ql_check.specs.declared.fault.CheckFault.TheVariants as variant;
 
-use ql_edge::{Bytes, NoMemory};
+use ql_edge::NoMemory;
 use ql_value::Refusal;
-use std::alloc::Global;
 
 /// Why a statement has no plan.
 #[derive(Debug, Drop)]
@@ -22,14 +21,4 @@ impl From<NoMemory> for CheckFault {
     fn from(_: NoMemory) -> CheckFault {
         CheckFault::NoMemory
     }
-}
-
-/// A refusal that shows no name.
-pub(crate) fn refused(alloc: Global, number: u8) -> CheckFault
-    ensures { result ≡ CheckFault.Refused (record { number = number; name = [] }) }
-{
-    CheckFault::Refused(Refusal {
-        number,
-        name: Bytes::new(alloc),
-    })
 }

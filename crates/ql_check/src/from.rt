@@ -6,12 +6,11 @@ ghost use Rattle.ql_check.specs.Gives.{Gives};
 ghost use Rattle.ql_check.specs.Names.{table_of};
 
 use crate::CheckFault;
-use crate::fault::refused;
-use crate::scope::{is_called, refused_at};
+use crate::scope::is_called;
 use ql_edge::{Boxed, Bytes, Name, NoMemory};
 use ql_rel::{Schema, Slot, Slots, TableSchema, TableSchemas};
 use ql_syntax::{ColumnDef, ColumnDefs, FromSet, FromSets, SetSource, Typing};
-use ql_value::{AMBIGUOUS, Kind, LATER, NO_TABLE};
+use ql_value::{AMBIGUOUS, Kind, LATER, NO_TABLE, Refusal};
 use std::alloc::Global;
 
 /// The table with a name.
@@ -91,10 +90,10 @@ fn add_table(
     ensures { Gives (spec.add_table slots set.now name.now (table_of table.entry)) result }
 {
     let Some(table) = table else {
-        return Err(refused_at(alloc, NO_TABLE, name));
+        return Err(CheckFault::Refused(Refusal::with_name(alloc, NO_TABLE, name)?));
     };
     if is_taken(set, slots.as_slice()) {
-        return Err(refused_at(alloc, AMBIGUOUS, set));
+        return Err(CheckFault::Refused(Refusal::with_name(alloc, AMBIGUOUS, set)?));
     }
     Ok(add_slots(alloc, slots, set, &table.columns)?)
 }
@@ -120,7 +119,7 @@ fn add_named(
     ensures { Gives (spec.add_named schema.now slots alias.now name.now) result }
 {
     if is_metadata(name.as_slice()) {
-        return Err(refused(alloc, LATER));
+        return Err(CheckFault::Refused(Refusal::new(alloc, LATER)));
     }
     let table = table_named(name.as_slice(), &schema.tables);
     add_table(alloc, slots, set_name(alias, name), name.as_slice(), table)
@@ -132,7 +131,7 @@ fn add_set(alloc: Global, schema: &Schema, slots: Slots, set: &FromSet) -> Resul
 {
     match &set.source {
         SetSource::Table(name) => add_named(alloc, schema, slots, &set.alias, name.get()),
-        SetSource::Query(_) => Err(refused(alloc, LATER)),
+        SetSource::Query(_) => Err(CheckFault::Refused(Refusal::new(alloc, LATER))),
     }
 }
 

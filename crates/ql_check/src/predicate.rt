@@ -5,13 +5,14 @@ ghost use Rattle.ql_rel.specs.Operands as spec;
 ghost use Rattle.ql_check.specs.Gives.{Gives};
 
 use crate::CheckFault;
+use crate::chain::pair;
 use crate::checked::{meet_type, of_type, require_type};
 use crate::copy::copy_typed;
 use crate::parts::{first_kind, kind_before, meet_all, meet_each, trees};
 use crate::table::{Group, among, meet, truth_of};
 use ql_edge::Boxed;
 use ql_rel::{Checked, CheckedList};
-use ql_syntax::{Typed, TypedLink, TypedLinks, Typing};
+use ql_syntax::{Typed, Typing};
 use ql_value::{BinOp, Kind, UnOp, UnOps};
 use std::alloc::Global;
 
@@ -47,16 +48,6 @@ pub(crate) fn in_list(
     truth(alloc, negated, Typed::IsIn { part, list })
 }
 
-/// `left op right`
-fn pair(alloc: Global, left: Typed, op: BinOp, right: Typed) -> Result<Typed, CheckFault>
-    ensures { Gives (Ok (spec.pair left op right)) result }
-{
-    let mut rest = TypedLinks::new(alloc);
-    rest.push(TypedLink { op, part: right })?;
-    let first = Boxed::new(alloc, left)?;
-    Ok(Typed::Chain { first, rest })
-}
-
 /// `(part >= low) && (part <= high)`
 fn between_tree(alloc: Global, part: Typed, low: Typed, high: Typed) -> Result<Typed, CheckFault>
     ensures { Gives (Ok (spec.between_tree part low high)) result }
@@ -64,7 +55,7 @@ fn between_tree(alloc: Global, part: Typed, low: Typed, high: Typed) -> Result<T
     let copy = copy_typed(alloc, &part)?;
     let below = pair(alloc, part, BinOp::Ge, low)?;
     let above = pair(alloc, copy, BinOp::Le, high)?;
-    pair(alloc, below, BinOp::Both, above)
+    Ok(pair(alloc, below, BinOp::Both, above)?)
 }
 
 /// The kind of the first of three parts that has one.

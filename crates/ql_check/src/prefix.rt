@@ -1,5 +1,5 @@
 //! Operators before a part.
-#![tactic(auto, using(crate::proofs::Prefixes::under_none, crate::proofs::Prefixes::under_some, crate::proofs::Prefixes::last_prefix, crate::proofs::Prefixes::minus_last, crate::proofs::Prefixes::front_last))]
+#![tactic(auto, using(crate::proofs::Prefixes::none_before, crate::proofs::Prefixes::some_before, crate::proofs::Prefixes::last_prefix, crate::proofs::Prefixes::minus_last, crate::proofs::Prefixes::front_last))]
 
 ghost use Rattle.std.specs.Prelude.{◌≡◌, [], ◌∷◌, ◌++◌, Ok, Some, true, false, MatchOption};
 ghost use Rattle.ql_syntax.specs.Typing as types;
@@ -7,7 +7,7 @@ ghost use Rattle.ql_rel.specs.Operands as spec;
 ghost use Rattle.ql_check.specs.Gives.{Gives};
 
 use crate::CheckFault;
-use crate::checked::{literal_of, require_type};
+use crate::checked::{literal_of, no_literal, require_type};
 use crate::table::prefix_type;
 use ql_edge::Boxed;
 use ql_rel::{Checked, Literal};
@@ -51,8 +51,8 @@ fn before_minus(ops: &[UnOp]) -> Option<&[UnOp]>
 }
 
 /// Operators before a part whose literal has its minus.
-fn under(alloc: Global, ops: &[UnOp], checked: Checked) -> Result<Checked, CheckFault>
-    ensures { Gives (spec.under ops.now checked) result }
+fn ops_before(alloc: Global, ops: &[UnOp], checked: Checked) -> Result<Checked, CheckFault>
+    ensures { Gives (spec.ops_before ops.now checked) result }
 {
     if ops.len() > 0 {
         ops_by_table(alloc, ops, checked)
@@ -68,12 +68,7 @@ fn ops_by_table(alloc: Global, ops: &[UnOp], checked: Checked) -> Result<Checked
     let typing = require_type(alloc, prefixed_type(ops, checked.typing))?;
     let ops = UnOps::from_slice(alloc, ops)?;
     let part = Boxed::new(alloc, checked.tree)?;
-    Ok(Checked {
-        literal: None,
-        untyped: checked.untyped,
-        typing,
-        tree: Typed::Unary { ops, part },
-    })
+    Ok(no_literal(checked.untyped, typing, Typed::Unary { ops, part }))
 }
 
 /// Operators before a part. A minus directly before a literal belongs to it.
@@ -87,7 +82,7 @@ pub(crate) fn apply_ops(
 {
     match checked.literal {
         Some(literal) => before_literal(alloc, ops, literal, checked),
-        None => under(alloc, ops, checked),
+        None => ops_before(alloc, ops, checked),
     }
 }
 
@@ -101,10 +96,10 @@ fn before_literal(
     ensures { Gives (spec.apply_ops_by ops.now (Some literal) checked) result }
 {
     if literal.minus {
-        return under(alloc, ops, checked);
+        return ops_before(alloc, ops, checked);
     }
     let Some(front) = before_minus(ops) else {
-        return under(alloc, ops, checked);
+        return ops_before(alloc, ops, checked);
     };
     let negative = literal_of(
         alloc,
@@ -113,5 +108,5 @@ fn before_literal(
             size: literal.size,
         },
     )?;
-    under(alloc, front, negative)
+    ops_before(alloc, front, negative)
 }

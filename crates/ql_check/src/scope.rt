@@ -4,12 +4,12 @@ ghost use Rattle.std.specs.Prelude.{◌≡◌, List, [], ◌∷◌, ◌++◌, So
 ghost use Rattle.ql_rel.specs.Scopes as spec;
 ghost use Rattle.ql_rel.specs.Types.{at_place};
 ghost use Rattle.ql_check.specs.Gives.{Gives};
-ghost use Rattle.ql_check.specs.Names.{Hits, IsRefusedAt, bytes_of, place_of};
+ghost use Rattle.ql_check.specs.Names.{Hits, bytes_of, place_of};
 
 use crate::CheckFault;
 use crate::checked::of_type;
 use ql_edge::{Bytes, NoMemory};
-use ql_rel::{Checked, Found, Scope, Slot};
+use ql_rel::{Checked, RowPlace, Scope, Slot};
 use ql_syntax::Typed;
 use ql_value::{AMBIGUOUS, NO_COLUMN, Refusal};
 use std::alloc::Global;
@@ -18,7 +18,7 @@ use std::alloc::Global;
 #[derive(Clone, Copy, Debug)]
 enum Hit {
     Nothing,
-    One(Found),
+    One(RowPlace),
     Several,
 }
 
@@ -52,8 +52,8 @@ fn is_of_column(column: Option<&[u8]>, slot: &Slot) -> bool
 }
 
 /// A further place behind those that were found.
-fn add_hit(hit: Hit, found: Found) -> Hit
-    ensures { (list : List Found) → Hits hit list → Hits result (list ++ found ∷ []) }
+fn add_hit(hit: Hit, found: RowPlace) -> Hit
+    ensures { (list : List RowPlace) → Hits hit list → Hits result (list ++ found ∷ []) }
 {
     match hit {
         Hit::Nothing => Hit::One(found),
@@ -64,13 +64,13 @@ fn add_hit(hit: Hit, found: Found) -> Hit
 /// One slot more.
 fn look_at(hit: Hit, set: Option<&[u8]>, column: Option<&[u8]>, at: u32, slot: &Slot) -> Hit
     ensures { let more =
-        spec.found (bytes_of set.entry) (bytes_of column.entry) at (slot.now ∷ []) in
-        (list : List Found) → Hits hit list → Hits result (list ++ more) }
+        spec.places_named (bytes_of set.entry) (bytes_of column.entry) at (slot.now ∷ []) in
+        (list : List RowPlace) → Hits hit list → Hits result (list ++ more) }
 {
     if is_of_set(set, slot) && is_of_column(column, slot) {
         add_hit(
             hit,
-            Found {
+            RowPlace {
                 at,
                 typing: slot.typing,
             },
@@ -87,7 +87,8 @@ fn search(
     start: u32,
     slots: &[Slot],
 ) -> Result<Hit, NoMemory>
-    ensures { let list = spec.found (bytes_of set.entry) (bytes_of column.entry) start slots.now in
+    ensures { let list =
+        spec.places_named (bytes_of set.entry) (bytes_of column.entry) start slots.now in
         IfOk result (λ hit. Hits hit list) }
 {
     let mut hit = Hit::Nothing;
@@ -102,24 +103,14 @@ fn search(
     Ok(hit)
 }
 
-/// A refusal that shows a name.
-pub(crate) fn refused_at(alloc: Global, number: u8, name: &[u8]) -> CheckFault
-    ensures { IsRefusedAt number name.now result }
-{
-    match Bytes::from_slice(alloc, name) {
-        Ok(name) => CheckFault::Refused(Refusal { number, name }),
-        Err(_) => CheckFault::NoMemory,
-    }
-}
-
 /// The one place that a name means.
-fn one_of(alloc: Global, name: &[u8], hit: Hit) -> Result<Found, CheckFault>
-    ensures { (list : List Found) → Hits hit list → Gives (spec.the_one name.now list) result }
+fn one_of(alloc: Global, name: &[u8], hit: Hit) -> Result<RowPlace, CheckFault>
+    ensures { (list : List RowPlace) → Hits hit list → Gives (spec.the_one name.now list) result }
 {
     match hit {
-        Hit::Nothing => Err(refused_at(alloc, NO_COLUMN, name)),
+        Hit::Nothing => Err(CheckFault::Refused(Refusal::with_name(alloc, NO_COLUMN, name)?)),
         Hit::One(found) => Ok(found),
-        Hit::Several => Err(refused_at(alloc, AMBIGUOUS, name)),
+        Hit::Several => Err(CheckFault::Refused(Refusal::with_name(alloc, AMBIGUOUS, name)?)),
     }
 }
 
@@ -130,9 +121,10 @@ fn find_column(
     set: Option<&[u8]>,
     column: &[u8],
     name: &[u8],
-) -> Result<Found, CheckFault>
-    ensures { let fields = spec.found None (Some name.now) scope.now.width scope.now.fields in
-        let columns = spec.found (bytes_of set.entry) (Some column.now) 0 scope.now.seen in
+) -> Result<RowPlace, CheckFault>
+    ensures { let fields =
+        spec.places_named None (Some name.now) scope.now.width scope.now.fields in
+        let columns = spec.places_named (bytes_of set.entry) (Some column.now) 0 scope.now.seen in
         Gives (spec.the_one name.now (spec.first_some fields columns)) result }
 {
     match search(None, Some(name), scope.width, scope.fields.as_slice())? {
@@ -161,7 +153,7 @@ fn column_place(
     scope: &Scope,
     set: Option<&[u8]>,
     column: &[u8],
-) -> Result<Found, CheckFault>
+) -> Result<RowPlace, CheckFault>
     ensures { Gives (spec.column_place scope.now (bytes_of set.entry) column.now) result }
 {
     match set {
@@ -174,7 +166,7 @@ fn column_place(
 }
 
 /// A part with its type, at a place of the row.
-fn as_place(found: Found) -> Checked
+fn as_place(found: RowPlace) -> Checked
     ensures { result ≡ place_of found }
 {
     of_type(found.typing, Typed::Place { at: found.at })

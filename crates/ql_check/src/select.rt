@@ -9,14 +9,13 @@ ghost use Rattle.ql_check.specs.Groups.{test_of};
 use crate::CheckFault;
 use crate::checked::require_type;
 use crate::expression::check_expr;
-use crate::fault::refused;
+use crate::fields::{any_aggregate, field_slots, fields_of};
 use crate::from::add_sets;
-use crate::shown::{any_aggregate, field_slots, fields_of};
 use crate::table::{Group, among};
 use ql_edge::{Boxed, Names0, NoMemory, Numbers};
-use ql_rel::{Limits, Output, Plan, Schema, Scope, Shown, ShownList, Slots, Source};
+use ql_rel::{Limits, Output, Plan, ResultField, ResultFields, Schema, Scope, Slots, Source};
 use ql_syntax::{Expr, Exprs, Join, OptTypeds, Select, Typed, TypedRows, Typeds};
-use ql_value::LATER;
+use ql_value::{LATER, Refusal};
 use std::alloc::Global;
 
 /// A row, and no field.
@@ -48,7 +47,7 @@ fn key_scope(
     alloc: Global,
     hides: bool,
     scope: Scope,
-    fields: &ShownList,
+    fields: &ResultFields,
 ) -> Result<Scope, NoMemory>
     ensures { IfOk result (λ keys. keys ≡ spec.key_scope hides scope fields.now) }
 {
@@ -115,7 +114,7 @@ fn without_join(alloc: Global, join: &Option<Boxed<Join>>) -> Result<(), CheckFa
     ensures { Gives (spec.without_join join.now) result }
 {
     match join {
-        Some(_) => Err(refused(alloc, LATER)),
+        Some(_) => Err(CheckFault::Refused(Refusal::new(alloc, LATER))),
         None => Ok(()),
     }
 }
@@ -173,14 +172,14 @@ struct Columns {
     names: Names0,
 }
 
-fn columns_of(alloc: Global, shown: ShownList) -> Result<Columns, NoMemory>
-    ensures { IfOk result (λ columns. AreColumns columns shown) }
+fn columns_of(alloc: Global, results: ResultFields) -> Result<Columns, NoMemory>
+    ensures { IfOk result (λ columns. AreColumns columns results) }
 {
     let mut fields = Typeds::new(alloc);
     let mut names = Names0::new(alloc);
-    'shown: for field in shown.into_vec() {
-        let Shown { name, tree, .. } = field;
-        fields.push(tree)?;
+    'results: for field in results.into_vec() {
+        let ResultField { name, expr } = field;
+        fields.push(expr.tree)?;
         names.push(name)?;
     }
     Ok(Columns { fields, names })

@@ -6,11 +6,10 @@ ghost use Rattle.ql_rel.specs.Plans.{plan};
 ghost use Rattle.ql_check.specs.Gives.{Gives};
 
 use crate::CheckFault;
-use crate::fault::refused;
 use crate::select::select_plan;
 use ql_rel::{Plan, Schema};
 use ql_syntax::Statement;
-use ql_value::LATER;
+use ql_value::{LATER, Refusal};
 use std::alloc::Global;
 
 /// The plan of a statement over the tables of a schema, or its first refusal. A SELECT is checked whole; every other
@@ -28,6 +27,6 @@ fn statement_plan(alloc: Global, statement: &Statement, schema: &Schema) -> Resu
 {
     match statement {
         Statement::Query(select) => select_plan(alloc, schema, select.get()),
-        _ => Err(refused(alloc, LATER)),
+        _ => Err(CheckFault::Refused(Refusal::new(alloc, LATER))),
     }
 }

@@ -14,6 +14,3 @@ mod prefix;
 pub use evaluation::eval;
 pub use fault::EvalFault;
 pub use ql_syntax::{OptTypeds, Typed, TypedLink, TypedLinks, TypedRows, Typeds};
-
-#[cfg(test)]
-mod tests;

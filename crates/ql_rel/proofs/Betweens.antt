@@ -1,6 +1,5 @@
 -- BETWEEN and aggregates have the types that are said of them.
 use Rattle.std.proofs.Common.{◌≡◌, Bool, true, false, not, if◌then◌else◌, inl, inr, List, [], ◌∷◌, length, Option, None, Some, Ok, refl, sym, ap, subst, ◌∙◌}
-use Rattle.ql_value.specs.declared.operator.BinOp.{BinOp}
 use Rattle.ql_value.specs.declared.operator.BinOp.TheVariants as op
 use Rattle.ql_value.specs.declared.value.Kind.{Kind}
 use Rattle.ql_value.specs.declared.value.Kind.TheVariants as k
@@ -11,16 +10,16 @@ use Rattle.ql_syntax.specs.declared.typed.Typed.{Typed}
 use Rattle.ql_syntax.specs.declared.typed.Typed.TheVariants as t
 use Rattle.ql_syntax.specs.declared.typing.Typing.{Typing}
 use Rattle.ql_syntax.specs.declared.typing.Typing.TheVariants.{OnlyNull, OfKind, Ill}
-use Rattle.ql_syntax.specs.Typing.{IsTyped, among, given_type, truth_of, meet, meet_all, operator_type, chain_type}
+use Rattle.ql_syntax.specs.Typing.{IsTyped, among, given_type, truth_of, meet, meet_all, operator_type}
 use Rattle.ql_rel.specs.declared.checked.Checked.{Checked}
 use Rattle.ql_rel.specs.Answers.{then_with, refused}
 use Rattle.ql_rel.specs.Checked.{meet_type, kind_or_int64, require_type}
-use Rattle.ql_rel.specs.Operands.{first_kind, pair, between_tree, between, truth, link}
+use Rattle.ql_rel.specs.Operands.{first_kind, pair, between_tree, between, truth}
 use Rattle.ql_rel.specs.Calls.{takes, first_part, count_of, aggregate, aggregate_first, group_value, group_call}
-use Rattle.ql_rel.specs.PlanTypes.{or_int64, aggregate_type, type_by}
-use Rattle.ql_rel.proofs.TypedBy.{by_chain, by_link, by_rows, by_aggregate}
+use Rattle.ql_syntax.specs.GroupTyping.{or_int64, aggregate_type, type_by}
+use Rattle.ql_syntax.proofs.TypedBy.{by_rows, by_aggregate}
 use Rattle.ql_rel.proofs.Fits.{Fits, then_ok, same_ok, ruled_ok, known_fits, meet_fits}
-use Rattle.ql_rel.proofs.Chains.{chosen}
+use Rattle.ql_rel.proofs.Chains.{chosen, pair_type}
 use Rattle.ql_rel.proofs.Parts.{Each, truth_fits, typed_truth}
 
 abbrev ordered : Kind → Bool
@@ -92,15 +91,12 @@ both_truths (OfKind a) x y h = let m = first_part_kind a x y h in record {
 both_truths Ill x y h = absurd h
 
 module _ (may : Bool) (row : List Typing) where
-  pair_type : (l : Typed) (o : BinOp) (r : Typed) → type_by may row (pair l o r) ≡ operator_type o (type_by may row l) (type_by may row r)
-  pair_type l o r = by_chain may row l (link o r ∷ []) ∙ ap (λ s. chain_type (type_by may row l) (s ∷ [])) (by_link may row o r)
-
   tree_type : (a x y : Typed) (u v w : Typing) → type_by may row a ≡ u → type_by may row x ≡ v → type_by may row y ≡ w → IsTyped (among ordered (meet (meet u v) w)) → type_by may row (between_tree a x y) ≡ OfKind k.Bool
   tree_type a x y u v w e f g h =
       let b = both_truths u v w h in
-      let low = pair_type a op.Ge x ∙ ap (λ z. operator_type op.Ge z (type_by may row x)) e ∙ ap (operator_type op.Ge u) f ∙ b.low in
-      let high = pair_type a op.Le y ∙ ap (λ z. operator_type op.Le z (type_by may row y)) e ∙ ap (operator_type op.Le u) g ∙ b.high in
-      pair_type (pair a op.Ge x) op.Both (pair a op.Le y) ∙ ap (λ z. operator_type op.Both z (type_by may row (pair a op.Le y))) low ∙ ap (operator_type op.Both (OfKind k.Bool)) high
+      let low = pair_type may row a op.Ge x ∙ ap (λ z. operator_type op.Ge z (type_by may row x)) e ∙ ap (operator_type op.Ge u) f ∙ b.low in
+      let high = pair_type may row a op.Le y ∙ ap (λ z. operator_type op.Le z (type_by may row y)) e ∙ ap (operator_type op.Le u) g ∙ b.high in
+      pair_type may row (pair a op.Ge x) op.Both (pair a op.Le y) ∙ ap (λ z. operator_type op.Both z (type_by may row (pair a op.Le y))) low ∙ ap (operator_type op.Both (OfKind k.Bool)) high
 
   truth_typed : (u v : Typing) → require_type (truth_of u) ≡ Ok v → IsTyped u
   truth_typed OnlyNull v a = tt

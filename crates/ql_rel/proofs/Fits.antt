@@ -18,8 +18,8 @@ use Rattle.ql_rel.specs.declared.checked.Literal.{Literal}
 use Rattle.ql_rel.specs.declared.checked.Checked.{Checked}
 use Rattle.ql_rel.specs.Answers.{Answer, then_with, refused}
 use Rattle.ql_rel.specs.Checked.{of_type, number_of, literal_kind, literal_of, literal_in, narrow, take_kind, meet_type, is_number_type, kind_or_int64, require_type, in_brackets}
-use Rattle.ql_rel.specs.PlanTypes.{type_by}
-use Rattle.ql_rel.proofs.TypedBy.{by_constant, by_narrow}
+use Rattle.ql_syntax.specs.GroupTyping.{type_by}
+use Rattle.ql_syntax.proofs.TypedBy.{by_constant, by_narrow}
 
 -- a part of an answer that stands
 pub then_ok : {A B : Type 0} (a : Answer A) (f : A → Answer B) (y : B) → then_with a f ≡ Ok y → (x : A) × (a ≡ Ok x) × (f x ≡ Ok y)

@@ -4,7 +4,7 @@ use Rattle.ql_value.specs.declared.value.Kind.TheVariants as k
 use Rattle.ql_value.specs.declared.value.Value.TheVariants as v
 use Rattle.ql_syntax.specs.declared.syntax.Expr.{Expr, map-Expr, roll-Expr}
 use Rattle.ql_syntax.specs.declared.syntax.Expr.TheOpen.{Expr-F, Link-F}
-use Rattle.ql_syntax.specs.declared.syntax.Expr.TheFolds.{fold-roll-Expr, fold-roll-Link, ind-Expr}
+use Rattle.ql_syntax.specs.declared.syntax.Expr.TheFolds.{ind-Expr}
 use Rattle.ql_syntax.specs.declared.syntax.Field.{Field}
 use Rattle.ql_syntax.specs.declared.syntax.FromSet.{FromSet}
 use Rattle.ql_syntax.specs.declared.syntax.Function.{Function}
@@ -15,16 +15,19 @@ use Rattle.ql_syntax.specs.declared.syntax.SetSource.{SetSource}
 use Rattle.ql_syntax.specs.declared.typed.Typed.TheVariants as t
 use Rattle.ql_syntax.specs.declared.typing.Typing.{Typing}
 use Rattle.ql_syntax.specs.declared.typing.Typing.TheVariants.{OnlyNull, OfKind}
+use Rattle.ql_syntax.specs.Aggregates.{is_aggregate}
+use Rattle.ql_syntax.specs.PartFolds.{fold_each}
+use Rattle.ql_syntax.proofs.PartEquations.{by_parts, by_link_part}
+use Rattle.ql_syntax.proofs.TypedBy.{by_constant}
 use Rattle.ql_rel.specs.declared.checked.Checked.{Checked}
 use Rattle.ql_rel.specs.declared.scope.Scope.{Scope}
 use Rattle.ql_rel.specs.Answers.{Answer, then_with, refused}
 use Rattle.ql_rel.specs.Checked.{of_type, literal_of, in_brackets}
-use Rattle.ql_rel.specs.Operands.{front_of, whole, add_steps, apply_ops, in_list, between, null_test}
-use Rattle.ql_rel.specs.Calls.{convert_to, row_call, is_aggregate, allowed_call}
+use Rattle.ql_rel.specs.Operands.{add_steps, apply_ops, in_list, between, null_test}
+use Rattle.ql_rel.specs.Calls.{convert_to, row_call, allowed_call}
 use Rattle.ql_rel.specs.Types.{Judged, JudgedLink, of_answer, expr_step, link_step, judge, judge_link, steps, answers, bare_name, id_of_part, id_call, is_id, call, text_of}
-use Rattle.ql_rel.proofs.TypedBy.{by_constant}
 use Rattle.ql_rel.proofs.Fits.{Fits, then_ok, same_ok, known_fits, literal_fits, brackets_fit}
-use Rattle.ql_rel.proofs.Chains.{chosen, EachStep, front_fits, whole_fits, chained_fits}
+use Rattle.ql_rel.proofs.Chains.{chosen, EachStep, chain_fits}
 use Rattle.ql_rel.proofs.Parts.{Each, prefixed_fits, in_fits, null_fits, convert_fits, call_fits}
 use Rattle.ql_rel.proofs.Betweens.{between_fits, group_fits}
 use Rattle.ql_rel.proofs.Places.{Stands, column_fits, id_fits, id_of_fits}
@@ -55,10 +58,8 @@ module _ (row : List Typing) (scope : Scope) (stands : Stands row scope) where
 
   chain_is_so : (first : Judged) (ls : List JudgedLink) → IsSo first → LinksAreSo ls → IsSo (expr_step scope (Expr-F.Chain first ls))
   chain_is_so first ls h k a c e =
-      let s = then_ok (first.answer a) (λ x. then_with (add_steps (front_of x) (steps a ls)) (λ g. Ok (whole g))) c e in
-      let m = then_ok (add_steps (front_of s.0) (steps a ls)) (λ g. Ok (whole g)) c s.2 in
-      let front = chained_fits a row (front_of s.0) m.0 (steps a ls) (front_fits a row s.0 (h a s.0 s.1)) (each_step a ls k) m.1 in
-      subst (Fits a row) (same_ok (whole m.0) c m.2) (whole_fits a row m.0 front)
+      let s = then_ok (first.answer a) (λ x. add_steps x (steps a ls)) c e in
+      chain_fits a row s.0 c (steps a ls) (h a s.0 s.1) (each_step a ls k) s.2
 
   part_of_id : (a : Bool) (name : Option (List ℕ)) (part : Answer Checked) (c : Checked) → id_of_part scope name part ≡ Ok c → Fits a row c
   part_of_id a (Some name) part c e = id_of_fits a row scope stands name c e
@@ -107,8 +108,8 @@ module _ (row : List Typing) (scope : Scope) (stands : Stands row scope) where
   links_are_so [] = tt
   links_are_so (l ∷ links) = (l.1, links_are_so links)
 
-  by_layer : (z : Expr-F Expr SetSource Field FromSet Join Link Select) → IsSo (expr_step scope (map-Expr Expr SetSource Field FromSet Join Link Select Judged (Unit {0}) (Unit {0}) (Unit {0}) (Unit {0}) JudgedLink (Unit {0}) (judge scope) (λ _. tt) (λ _. tt) (λ _. tt) (λ _. tt) (judge_link scope) (λ _. tt) z)) → IsSo (judge scope (roll-Expr z))
-  by_layer z h = subst IsSo (sym (fold-roll-Expr Judged (Unit {0}) (Unit {0}) (Unit {0}) (Unit {0}) JudgedLink (Unit {0}) (expr_step scope) (λ _. tt) (λ _. tt) (λ _. tt) (λ _. tt) link_step (λ _. tt) z)) h
+  by_layer : (z : Expr-F Expr SetSource Field FromSet Join Link Select) → IsSo (expr_step scope (fold_each Judged JudgedLink (judge scope) (judge_link scope) z)) → IsSo (judge scope (roll-Expr z))
+  by_layer z h = subst IsSo (sym (by_parts Judged JudgedLink (expr_step scope) link_step z)) h
 
   constant_is_so : (d : Checked) → ((a : Bool) → Fits a row d) → IsSo (of_answer (λ a. Ok d))
   constant_is_so d f a c e = subst (Fits a row) (same_ok d c e) (f a)
@@ -148,7 +149,7 @@ module _ (row : List Typing) (scope : Scope) (stands : Stands row scope) where
       subst (Fits a row) (same_ok (null_test negated s.0) c s.2) (null_fits a row negated s.0 (part.1 a s.0 s.1)))
 
   link_is_so : (z : Link-F Expr SetSource Field FromSet Join Link Select) → IsSo (judge scope z.part) → IsSo (judge_link scope (roll-Link z)).part
-  link_is_so z h = subst (λ l. IsSo l.part) (sym (fold-roll-Link Judged (Unit {0}) (Unit {0}) (Unit {0}) (Unit {0}) JudgedLink (Unit {0}) (expr_step scope) (λ _. tt) (λ _. tt) (λ _. tt) (λ _. tt) link_step (λ _. tt) z)) h
+  link_is_so z h = subst (λ l. IsSo l.part) (sym (by_link_part Judged JudgedLink (expr_step scope) link_step z)) h
 
   -- what is said of an expression is so
   pub is_so : (e : Expr) → IsSo (judge scope e)

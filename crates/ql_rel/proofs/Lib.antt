@@ -1,14 +1,26 @@
 pub mod Equations
 pub mod TypeExamples
 pub mod PlanExamples
-pub mod TypedBy
 pub mod Fits
 pub mod Chains
 pub mod Parts
 pub mod Betweens
 pub mod Places
 pub mod Judged
-pub mod NoAggregates
 pub mod PlanFits
 pub mod SelectFits
 pub mod EffectExamples
+mod ChangeLemmas
+mod FormLemmas
+mod NameLemmas
+mod AcceptLemmas
+mod TableForms
+mod ColumnForms
+mod NarrowForms
+mod TextLemmas
+mod EventLemmas
+mod StatementExamples
+pub mod InsertFits
+pub mod MadeLemmas
+pub mod CreateLemmas
+pub mod Gathered

@@ -15,11 +15,11 @@ use Rattle.ql_syntax.specs.Typing.{IsTyped, among, given_type, truth_of, meet_al
 use Rattle.ql_rel.specs.declared.checked.Literal.{Literal}
 use Rattle.ql_rel.specs.declared.checked.Checked.{Checked}
 use Rattle.ql_rel.specs.Answers.{then_with, refused}
-use Rattle.ql_rel.specs.Checked.{of_type, literal_of, meet_type, require_type}
-use Rattle.ql_rel.specs.Operands.{under, ops_by_table, apply_ops, apply_ops_by, ends_with_minus, but_last, first_kind, meet_each, types, trees, truth, in_list, null_test}
+use Rattle.ql_rel.specs.Checked.{no_literal, of_type, literal_of, meet_type, require_type}
+use Rattle.ql_rel.specs.Operands.{ops_before, ops_by_table, apply_ops, apply_ops_by, ends_with_minus, but_last, first_kind, meet_each, types, trees, truth, in_list, null_test}
 use Rattle.ql_rel.specs.Calls.{convert_by_table, convert_literal, convert_to, call_by_table, row_value, row_call, takes}
-use Rattle.ql_rel.specs.PlanTypes.{type_by}
-use Rattle.ql_rel.proofs.TypedBy.{by_unary, by_convert, by_call, by_in, by_is_null}
+use Rattle.ql_syntax.specs.GroupTyping.{type_by}
+use Rattle.ql_syntax.proofs.TypedBy.{by_unary, by_convert, by_call, by_in, by_is_null}
 use Rattle.ql_rel.proofs.Fits.{Fits, then_ok, same_ok, ruled_ok, known_fits, literal_fits, literal_in_fits, meet_fits}
 use Rattle.ql_rel.proofs.Chains.{chosen}
 
@@ -51,24 +51,24 @@ typed_truth Ill h = absurd h
 module _ (may : Bool) (row : List Typing) where
   signed_fits : (ops : List UnOp) (c d : Checked) → Fits may row c → ops_by_table ops c ≡ Ok d → Fits may row d
   signed_fits ops c d h a =
-      let s = then_ok (require_type (prefixed_type ops c.typing)) (λ type. Ok (record { literal = None; untyped = c.untyped; typing = type; tree = t.Unary ops c.tree })) d a in
+      let s = then_ok (require_type (prefixed_type ops c.typing)) (λ type. Ok (no_literal c.untyped type (t.Unary ops c.tree))) d a in
       let r = ruled_ok (prefixed_type ops c.typing) s.0 s.1 in
-      subst (Fits may row) (same_ok (record { literal = None; untyped = c.untyped; typing = s.0; tree = t.Unary ops c.tree }) d s.2) (record {
+      subst (Fits may row) (same_ok (no_literal c.untyped s.0 (t.Unary ops c.tree)) d s.2) (record {
         typed = subst IsTyped r.1 r.0;
         is = by_unary may row ops c.tree ∙ ap (prefixed_type ops) h.is ∙ r.1;
         loose = λ e. sym r.1 ∙ ap (prefixed_type ops) (h.loose e) ∙ prefixes_int64 ops (subst (λ u. IsTyped (prefixed_type ops u)) (h.loose e) r.0);
       })
 
-  under_fits : (ops : List UnOp) (c d : Checked) → Fits may row c → under ops c ≡ Ok d → Fits may row d
-  under_fits [] c d h a = subst (Fits may row) (same_ok c d a) h
-  under_fits (o ∷ ops) c d h a = signed_fits (o ∷ ops) c d h a
+  before_fits : (ops : List UnOp) (c d : Checked) → Fits may row c → ops_before ops c ≡ Ok d → Fits may row d
+  before_fits [] c d h a = subst (Fits may row) (same_ok c d a) h
+  before_fits (o ∷ ops) c d h a = signed_fits (o ∷ ops) c d h a
 
   by_literal : (ops : List UnOp) (l : Option Literal) (c d : Checked) → Fits may row c → apply_ops_by ops l c ≡ Ok d → Fits may row d
-  by_literal ops None c d h a = under_fits ops c d h a
+  by_literal ops None c d h a = before_fits ops c d h a
   by_literal ops (Some l) c d h a =
-      elim (chosen (ends_with_minus ops && not l.minus) (under (but_last ops) (literal_of (record { minus = true; size = l.size }))) (under ops c) d a) [
-        | inl w ↦ under_fits (but_last ops) (literal_of (record { minus = true; size = l.size })) d (literal_fits may row (record { minus = true; size = l.size })) w.1
-        | inr w ↦ under_fits ops c d h w.1
+      elim (chosen (ends_with_minus ops && not l.minus) (ops_before (but_last ops) (literal_of (record { minus = true; size = l.size }))) (ops_before ops c) d a) [
+        | inl w ↦ before_fits (but_last ops) (literal_of (record { minus = true; size = l.size })) d (literal_fits may row (record { minus = true; size = l.size })) w.1
+        | inr w ↦ before_fits ops c d h w.1
       ]
 
   pub prefixed_fits : (ops : List UnOp) (c d : Checked) → Fits may row c → apply_ops ops c ≡ Ok d → Fits may row d

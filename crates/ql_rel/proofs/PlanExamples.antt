@@ -23,19 +23,19 @@ use Rattle.ql_syntax.specs.declared.typing.Typing.{Typing}
 use Rattle.ql_syntax.specs.declared.typing.Typing.TheVariants.{OfKind, Ill}
 use Rattle.ql_syntax.specs.Typing.{among, meet, place_type}
 use Rattle.ql_rel.specs.declared.scope.Slot.{Slot}
-use Rattle.ql_rel.specs.declared.select.Shown.{Shown}
+use Rattle.ql_rel.specs.declared.select.ResultField.{ResultField}
 use Rattle.ql_rel.specs.declared.select.Source.{Source}
 use Rattle.ql_rel.specs.declared.select.Limits.{Limits}
 use Rattle.ql_rel.specs.declared.plan.Plan.{Plan}
 use Rattle.ql_rel.specs.declared.schema.Schema.{Schema}
-use Rattle.ql_rel.specs.Aggregates.{has_aggregate, aggregate_step, aggregate_link}
+use Rattle.ql_syntax.specs.Aggregates.{has_aggregate, aggregate_step, aggregate_link}
 use Rattle.ql_rel.specs.Answers.{Answer, refused, refused_at, then_with}
-use Rattle.ql_rel.specs.Checked.{require_type}
+use Rattle.ql_rel.specs.Checked.{of_type, require_type}
 use Rattle.ql_rel.specs.Scopes.{column_place}
 use Rattle.ql_rel.specs.Types.{Judged, ref_of, plain_name}
-use Rattle.ql_rel.specs.Plans.{add_table, add_source, add_set, add_sets, set_slots, without_join, field_name, star, any_shown, key_scope, row_scope, table_named, resolve_among, resolve_if, resolve_each, is_some_list, output_of, limits_of, plan_of, select_plan, plan}
-use Rattle.ql_rel.specs.PlanTypes.{aggregate_type, type_by, type_in_group}
-use Rattle.ql_rel.proofs.TypedBy.{by_roll, by_constant, by_place, by_rows, by_aggregate}
+use Rattle.ql_rel.specs.Plans.{add_table, add_source, add_set, add_sets, set_slots, without_join, field_name, star, any_field_aggregate, key_scope, row_scope, table_named, resolve_among, resolve_if, resolve_each, is_some_list, output_of, limits_of, plan_of, select_plan, plan}
+use Rattle.ql_syntax.specs.GroupTyping.{aggregate_type, type_by, type_in_group}
+use Rattle.ql_syntax.proofs.TypedBy.{by_roll, by_constant, by_place, by_rows, by_aggregate}
 use Rattle.ql_rel.proofs.Equations.{judge_of_column, judge_of_number, judge_of_truth, judge_of_null}
 
 abbrev column : List ℕ → Kind → ColumnDef
@@ -68,14 +68,14 @@ no_table = refl
 no_star : star [] ≡ refused 6
 no_star = refl
 
-one_star : star t_slots ≡ Ok (record { name = codes "a"; typing = OfKind k.Int8; tree = t.Place 1 } ∷ [])
+one_star : star t_slots ≡ Ok (record { name = codes "a"; expr = of_type (OfKind k.Int8) (t.Place 1) } ∷ [])
 one_star = refl
 
-two_stars : star (t_slots ++ u_slots) ≡ Ok (record { name = codes "t.a"; typing = OfKind k.Int8; tree = t.Place 1 } ∷ record { name = codes "u.a"; typing = OfKind k.Int64; tree = t.Place 3 } ∷ [])
+two_stars : star (t_slots ++ u_slots) ≡ Ok (record { name = codes "t.a"; expr = of_type (OfKind k.Int8) (t.Place 1) } ∷ record { name = codes "u.a"; expr = of_type (OfKind k.Int64) (t.Place 3) } ∷ [])
 two_stars = refl
 
-abbrev field : List ℕ → Shown
-field name = record { name = name; typing = OfKind k.Text; tree = t.Place 1 }
+abbrev field : List ℕ → ResultField
+field name = record { name = name; expr = of_type (OfKind k.Text) (t.Place 1) }
 
 -- ORDER BY: two fields of one name are ambiguous, a field stands before a column, and with DISTINCT or grouping no column is seen
 two_fields : column_place (key_scope false (row_scope t_slots) (field (codes "a") ∷ field (codes "a") ∷ [])) None (codes "a") ≡ refused_at 3 (codes "a")
@@ -105,7 +105,7 @@ no_name : field_name None (plain_name (e.Paren (e.Column None (codes "a")))) ≡
 no_name = ap (λ x. field_name None (ref_of x)) (e.outs-Paren (e.Column None (codes "a")))
 
 -- an aggregate in a field makes a group
-one_group : any_shown (record { name = []; typing = OfKind k.Int64; tree = t.Aggregate f.Count k.Int64 None } ∷ []) ≡ true
+one_group : any_field_aggregate (record { name = []; expr = of_type (OfKind k.Int64) (t.Aggregate f.Count k.Int64 None) } ∷ []) ≡ true
 one_group =
     ap (λ b. b || false)
     (ap has_aggregate (sym (t.rolls-Aggregate f.Count k.Int64 None)) ∙ fold-roll-Typed Bool Bool aggregate_step aggregate_link (Typed-F.Aggregate f.Count k.Int64 None))

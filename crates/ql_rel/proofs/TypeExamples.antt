@@ -1,5 +1,5 @@
 -- A few types and refusals, computed by the definitions. Each part is given by what is said of it.
-use Rattle.std.proofs.Common.{◌≡◌, ℕ, ℤ, pos, negsuc, Bool, true, false, List, [], ◌∷◌, ◌++◌, Some, None, Ok, ◌+◌, ◌^◌, ◌-◌, refl}
+use Rattle.std.proofs.Common.{◌≡◌, ℕ, ℤ, pos, negsuc, Bool, true, false, List, [], ◌∷◌, ◌++◌, Some, None, Ok, ◌+◌, ◌^◌, ◌-◌, refl, ap, ◌∙◌}
 use Rattle.std.specs.Prelude.{codes}
 use Rattle.ql_value.specs.declared.operator.BinOp.{BinOp}
 use Rattle.ql_value.specs.declared.operator.BinOp.TheVariants as op
@@ -7,12 +7,14 @@ use Rattle.ql_value.specs.declared.operator.UnOp.{UnOp}
 use Rattle.ql_value.specs.declared.operator.UnOp.TheVariants as un
 use Rattle.ql_value.specs.declared.value.Kind.{Kind}
 use Rattle.ql_value.specs.declared.value.Kind.TheVariants as k
+use Rattle.ql_value.specs.declared.value.Value.{Value}
 use Rattle.ql_value.specs.declared.value.Value.TheVariants as v
 use Rattle.ql_syntax.specs.declared.syntax.Expr.TheOpen.{Expr-F}
 use Rattle.ql_syntax.specs.declared.syntax.Function.{Function}
 use Rattle.ql_syntax.specs.declared.syntax.Function.TheVariants as f
 use Rattle.ql_syntax.specs.declared.typed.Typed.{Typed}
 use Rattle.ql_syntax.specs.declared.typed.Typed.TheVariants as t
+use Rattle.ql_syntax.specs.declared.typed.TypedLink.{TypedLink}
 use Rattle.ql_syntax.specs.declared.typing.Typing.{Typing}
 use Rattle.ql_syntax.specs.declared.typing.Typing.TheVariants.{OnlyNull, OfKind}
 use Rattle.ql_rel.specs.declared.checked.Checked.{Checked}
@@ -20,7 +22,7 @@ use Rattle.ql_rel.specs.declared.scope.Slot.{Slot}
 use Rattle.ql_rel.specs.declared.scope.Scope.{Scope}
 use Rattle.ql_rel.specs.Answers.{Answer, refused, refused_at}
 use Rattle.ql_rel.specs.Checked.{of_type}
-use Rattle.ql_rel.specs.Operands.{link}
+use Rattle.ql_rel.specs.Operands.{link, behind_layer, longer_chain}
 use Rattle.ql_rel.specs.Types.{Judged, expr_step}
 
 -- the id and the columns of a record set
@@ -132,6 +134,16 @@ chain_of a o b = t.Chain a (link o b ∷ [])
 abbrev text_tree : List ℕ → Typed
 text_tree b = t.Constant (v.Text b)
 
+-- an operator behind a constant, behind a part that took a kind, and behind a chain
+behind_constant : (x : Value) (o : BinOp) (right : Typed) → longer_chain (t.Constant x) o right ≡ chain_of (t.Constant x) o right
+behind_constant x o right = ap (λ z. behind_layer z (t.Constant x) o right) (t.outs-Constant x)
+
+behind_narrow : (kind : Kind) (part : Typed) (o : BinOp) (right : Typed) → longer_chain (t.Narrow kind part) o right ≡ chain_of (t.Narrow kind part) o right
+behind_narrow kind part o right = ap (λ z. behind_layer z (t.Narrow kind part) o right) (t.outs-Narrow kind part)
+
+behind_chain : (first : Typed) (rest : List TypedLink) (o : BinOp) (right : Typed) → longer_chain (t.Chain first rest) o right ≡ t.Chain first (rest ++ link o right ∷ [])
+behind_chain first rest o right = ap (λ z. behind_layer z (t.Chain first rest) o right) (t.outs-Chain first rest)
+
 -- `(1 + "a") + nosuch`: what is wrong within comes first
 inner_first : at_row (pair nothing (brackets nothing (pair nothing (number nothing 1) op.Add (text nothing (codes "a")))) op.Add (name nothing (codes "nosuch"))) ≡ refused 5
 inner_first = refl
@@ -184,7 +196,7 @@ minus_meets : at_row (pair nothing (int8 nothing 1) op.Add (minus nothing 129)) 
 minus_meets = refl
 
 least_meets : at_row (pair nothing (int8 nothing 1) op.Add (minus nothing 128)) ≡ typed (OfKind k.Int8) (chain_of (constant k.Int8 (pos 1)) op.Add (constant k.Int8 (negsuc 127)))
-least_meets = refl
+least_meets = ap (typed (OfKind k.Int8)) (behind_constant (v.Int k.Int8 (pos 1)) op.Add (constant k.Int8 (negsuc 127)))
 
 compared_meets : at_row (pair nothing (int8 nothing 1) op.Eq (number nothing 300)) ≡ refused 7
 compared_meets = refl
@@ -194,42 +206,55 @@ literal_meets : at_row (pair nothing (int8 nothing 1) op.Add (number nothing 300
 literal_meets = refl
 
 brackets_meet : at_row (pair nothing (int8 nothing 1) op.Add (brackets nothing (number nothing 300))) ≡ typed (OfKind k.Int8) (chain_of (constant k.Int8 (pos 1)) op.Add (t.Narrow k.Int8 (constant k.Int64 (pos 300))))
-brackets_meet = refl
+brackets_meet = ap (typed (OfKind k.Int8)) (behind_constant (v.Int k.Int8 (pos 1)) op.Add (t.Narrow k.Int8 (constant k.Int64 (pos 300))))
 
 plus_meets : at_row (pair nothing (int8 nothing 1) op.Add (signed nothing (un.Plus ∷ []) (number nothing 300))) ≡ typed (OfKind k.Int8) (chain_of (constant k.Int8 (pos 1)) op.Add (t.Narrow k.Int8 (t.Unary (un.Plus ∷ []) (constant k.Int64 (pos 300)))))
-plus_meets = refl
+plus_meets = ap (typed (OfKind k.Int8)) (behind_constant (v.Int k.Int8 (pos 1)) op.Add (t.Narrow k.Int8 (t.Unary (un.Plus ∷ []) (constant k.Int64 (pos 300)))))
 
 two_signs_meet : at_row (pair nothing (int8 nothing 1) op.Add (signed nothing (un.Minus ∷ un.Minus ∷ []) (number nothing 300))) ≡ typed (OfKind k.Int8) (chain_of (constant k.Int8 (pos 1)) op.Add (t.Narrow k.Int8 (t.Unary (un.Minus ∷ []) (constant k.Int64 (negsuc 299)))))
-two_signs_meet = refl
+two_signs_meet = ap (typed (OfKind k.Int8)) (behind_constant (v.Int k.Int8 (pos 1)) op.Add (t.Narrow k.Int8 (t.Unary (un.Minus ∷ []) (constant k.Int64 (negsuc 299)))))
 
 sum_meets : at_row (pair nothing (int8 nothing 1) op.Add (brackets nothing (pair nothing (number nothing 100) op.Add (number nothing 100)))) ≡ typed (OfKind k.Int8) (chain_of (constant k.Int8 (pos 1)) op.Add (t.Narrow k.Int8 (chain_of (constant k.Int64 (pos 100)) op.Add (constant k.Int64 (pos 100)))))
-sum_meets = refl
+sum_meets =
+    let hundred = constant k.Int64 (pos 100) in
+    ap (λ x. typed (OfKind k.Int8) (longer_chain (constant k.Int8 (pos 1)) op.Add (t.Narrow k.Int8 x))) (behind_constant (v.Int k.Int64 (pos 100)) op.Add hundred)
+    ∙ ap (typed (OfKind k.Int8)) (behind_constant (v.Int k.Int8 (pos 1)) op.Add (t.Narrow k.Int8 (chain_of hundred op.Add hundred)))
 
 -- in `1 + 2 + int8(3)` all that stands before meets int8, in `int8(3) + 1 + 2` each literal
 whole_meets : at_row (three nothing (number nothing 1) op.Add (number nothing 2) op.Add (int8 nothing 3)) ≡ typed (OfKind k.Int8) (chain_of (t.Narrow k.Int8 (chain_of (constant k.Int64 (pos 1)) op.Add (constant k.Int64 (pos 2)))) op.Add (constant k.Int8 (pos 3)))
-whole_meets = refl
+whole_meets =
+    let three = constant k.Int8 (pos 3) in
+    ap (λ x. typed (OfKind k.Int8) (longer_chain (t.Narrow k.Int8 x) op.Add three)) (behind_constant (v.Int k.Int64 (pos 1)) op.Add (constant k.Int64 (pos 2)))
+    ∙ ap (typed (OfKind k.Int8)) (behind_narrow k.Int8 (chain_of (constant k.Int64 (pos 1)) op.Add (constant k.Int64 (pos 2))) op.Add three)
 
 each_meets : at_row (three nothing (int8 nothing 3) op.Add (number nothing 1) op.Add (number nothing 2)) ≡ typed (OfKind k.Int8) (t.Chain (constant k.Int8 (pos 3)) (link op.Add (constant k.Int8 (pos 1)) ∷ link op.Add (constant k.Int8 (pos 2)) ∷ []))
-each_meets = refl
+each_meets =
+    let two = constant k.Int8 (pos 2) in
+    ap (λ x. typed (OfKind k.Int8) (longer_chain x op.Add two)) (behind_constant (v.Int k.Int8 (pos 3)) op.Add (constant k.Int8 (pos 1)))
+    ∙ ap (typed (OfKind k.Int8)) (behind_chain (constant k.Int8 (pos 3)) (link op.Add (constant k.Int8 (pos 1)) ∷ []) op.Add two)
+
+-- `(int8(3) + 1) + 2` is the same chain, and `int8(3) + (1 + 2)` is not
+brackets_before : at_row (pair nothing (brackets nothing (pair nothing (int8 nothing 3) op.Add (number nothing 1))) op.Add (number nothing 2)) ≡ at_row (three nothing (int8 nothing 3) op.Add (number nothing 1) op.Add (number nothing 2))
+brackets_before = refl
 
 -- `1 << -1` is untyped and fine here; `1 << uint8(3)` is int64
 shift : at_row (pair nothing (number nothing 1) op.Shl (minus nothing 1)) ≡ untyped (chain_of (constant k.Int64 (pos 1)) op.Shl (constant k.Int64 (negsuc 0)))
-shift = refl
+shift = ap untyped (behind_constant (v.Int k.Int64 (pos 1)) op.Shl (constant k.Int64 (negsuc 0)))
 
 typed_count : at_row (pair nothing (number nothing 1) op.Shl (as_kind nothing k.Uint8 (number nothing 3))) ≡ typed (OfKind k.Int64) (chain_of (constant k.Int64 (pos 1)) op.Shl (constant k.Uint8 (pos 3)))
-typed_count = refl
+typed_count = ap (typed (OfKind k.Int64)) (behind_constant (v.Int k.Int64 (pos 1)) op.Shl (constant k.Uint8 (pos 3)))
 
 -- `int8(1) << 300`: a count meets no kind
 count_alone : at_row (pair nothing (int8 nothing 1) op.Shl (number nothing 300)) ≡ typed (OfKind k.Int8) (chain_of (constant k.Int8 (pos 1)) op.Shl (constant k.Int64 (pos 300)))
-count_alone = refl
+count_alone = ap (typed (OfKind k.Int8)) (behind_constant (v.Int k.Int8 (pos 1)) op.Shl (constant k.Int64 (pos 300)))
 
 -- two untyped sides of a comparison are int64: `1 < 300`
 untyped_compared : at_row (pair nothing (number nothing 1) op.Lt (number nothing 300)) ≡ typed (OfKind k.Bool) (chain_of (constant k.Int64 (pos 1)) op.Lt (constant k.Int64 (pos 300)))
-untyped_compared = refl
+untyped_compared = ap (typed (OfKind k.Bool)) (behind_constant (v.Int k.Int64 (pos 1)) op.Lt (constant k.Int64 (pos 300)))
 
 -- `NULL + 1` is int64; `1 == "a"` and `true < false` are 5
 null_beside : at_row (pair nothing (null nothing) op.Add (number nothing 1)) ≡ typed (OfKind k.Int64) (chain_of (t.Constant v.Null) op.Add (constant k.Int64 (pos 1)))
-null_beside = refl
+null_beside = ap (typed (OfKind k.Int64)) (behind_constant v.Null op.Add (constant k.Int64 (pos 1)))
 
 two_sorts : at_row (pair nothing (number nothing 1) op.Eq (text nothing (codes "a"))) ≡ refused 5
 two_sorts = refl
@@ -239,7 +264,7 @@ no_order = refl
 
 -- `true == false` is fine; `1 && true`, `blob("a") + blob("b")`, `!1` and `-"a"` are 5; `"a" + "b"` is a string, and `!NULL` NULL
 truths_equal : at_row (pair nothing (truth nothing true) op.Eq (truth nothing false)) ≡ typed (OfKind k.Bool) (chain_of (t.Constant (v.Bool true)) op.Eq (t.Constant (v.Bool false)))
-truths_equal = refl
+truths_equal = ap (typed (OfKind k.Bool)) (behind_constant (v.Bool true) op.Eq (t.Constant (v.Bool false)))
 
 number_and : at_row (pair nothing (number nothing 1) op.Both (truth nothing true)) ≡ refused 5
 number_and = refl
@@ -254,7 +279,7 @@ minus_text : at_row (signed nothing (un.Minus ∷ []) (text nothing (codes "a"))
 minus_text = refl
 
 two_texts : at_row (pair nothing (text nothing (codes "a")) op.Add (text nothing (codes "b"))) ≡ typed (OfKind k.Text) (chain_of (text_tree (codes "a")) op.Add (text_tree (codes "b")))
-two_texts = refl
+two_texts = ap (typed (OfKind k.Text)) (behind_constant (v.Text (codes "a")) op.Add (text_tree (codes "b")))
 
 not_null : at_row (signed nothing (un.Not ∷ []) (null nothing)) ≡ typed OnlyNull (t.Unary (un.Not ∷ []) (t.Constant v.Null))
 not_null = refl
@@ -274,7 +299,7 @@ beyond : at_row (brackets nothing (minus nothing (2 ^ 63 + 1))) ≡ typed (OfKin
 beyond = refl
 
 less_large : at_row (pair nothing (number nothing 1) op.Sub (number nothing (2 ^ 63))) ≡ typed (OfKind k.Uint64) (chain_of (constant k.Uint64 (pos 1)) op.Sub (constant k.Uint64 (pos (2 ^ 63))))
-less_large = refl
+less_large = ap (typed (OfKind k.Uint64)) (behind_constant (v.Int k.Uint64 (pos 1)) op.Sub (constant k.Uint64 (pos (2 ^ 63))))
 
 -- `coalesce(1, 300, int8(2))` is 7 and `coalesce(1, 300)` an int64; `coalesce()` is 6
 parts_meet : at_row (of nothing f.Coalesce (number nothing 1 ∷ number nothing 300 ∷ int8 nothing 2 ∷ [])) ≡ refused 7

@@ -56,15 +56,6 @@ row_value function parts = call_by_table function parts
 abbrev pub row_call : Function → List Checked → Answer Checked
 row_call function parts = if takes function (length parts) then row_value function parts else refused COUNT
 
--- the function is an aggregate, which gives a value of the rows of a group
-abbrev pub is_aggregate : Function → Bool
-is_aggregate f.Count = true
-is_aggregate f.Sum = true
-is_aggregate f.Avg = true
-is_aggregate f.Min = true
-is_aggregate f.Max = true
-is_aggregate _ = false
-
 -- an aggregate of a kind
 abbrev pub aggregate : Function → Kind → Option Typed → Checked
 aggregate function kind part = of_type (OfKind kind) (t.Aggregate function kind part)

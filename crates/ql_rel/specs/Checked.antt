@@ -18,9 +18,13 @@ use Rattle.ql_rel.specs.Answers.{Answer, refused}
 abbrev pub number_of : Literal → ℤ
 number_of l = if l.minus then neg_ℤ (pos l.size) else pos l.size
 
+-- an expression that is no literal, by whether it is untyped
+abbrev pub no_literal : Bool → Typing → Typed → Checked
+no_literal untyped type tree = record { literal = None; untyped = untyped; typing = type; tree = tree }
+
 -- an expression that has a type of its own
 abbrev pub of_type : Typing → Typed → Checked
-of_type type tree = record { literal = None; untyped = false; typing = type; tree = tree }
+of_type type tree = no_literal false type tree
 
 -- the kind of a literal that meets none: int64, or uint64 where it is outside
 abbrev pub literal_kind : ℤ → Kind
@@ -35,7 +39,7 @@ literal_of l =
 
 -- the same expression in brackets, which is no literal
 abbrev pub in_brackets : Checked → Checked
-in_brackets c = record { literal = None; untyped = c.untyped; typing = c.typing; tree = c.tree }
+in_brackets c = no_literal c.untyped c.typing c.tree
 
 -- a literal as a number of an integer kind: 7 where it is outside
 abbrev pub literal_in : Kind → Literal → Answer Checked

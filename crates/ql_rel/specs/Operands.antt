@@ -6,7 +6,8 @@ use Rattle.ql_value.specs.declared.operator.UnOp.{UnOp}
 use Rattle.ql_value.specs.declared.operator.UnOp.TheVariants as un
 use Rattle.ql_value.specs.declared.refusal.TheConstants.{LATER}
 use Rattle.ql_value.specs.declared.value.Kind.TheVariants as k
-use Rattle.ql_syntax.specs.declared.typed.Typed.{Typed}
+use Rattle.ql_syntax.specs.declared.typed.Typed.{Typed, out-Typed}
+use Rattle.ql_syntax.specs.declared.typed.Typed.TheOpen.{Typed-F}
 use Rattle.ql_syntax.specs.declared.typed.Typed.TheVariants as t
 use Rattle.ql_syntax.specs.declared.typed.TypedLink.{TypedLink, roll-TypedLink}
 use Rattle.ql_value.specs.Kinds.{is_truth}
@@ -15,9 +16,8 @@ use Rattle.ql_syntax.specs.declared.typing.Typing.TheVariants.{OnlyNull, OfKind}
 use Rattle.ql_syntax.specs.Typing.{among, meet_all, truth_of, operator_type, prefixed_type}
 use Rattle.ql_rel.specs.declared.checked.Literal.{Literal}
 use Rattle.ql_rel.specs.declared.checked.Checked.{Checked}
-use Rattle.ql_rel.specs.declared.checked.Front.{Front}
 use Rattle.ql_rel.specs.Answers.{Answer, refused, then_with, all_of}
-use Rattle.ql_rel.specs.Checked.{of_type, literal_of, take_kind, meet_type, is_number_type, kind_or_int64, require_type}
+use Rattle.ql_rel.specs.Checked.{no_literal, of_type, literal_of, meet_type, require_type}
 
 -- the operators whose untyped side meets the kind of the other side: those of levels 5 and 4 but the shifts, and the comparisons
 abbrev pub shares_kind : BinOp → Bool
@@ -45,34 +45,23 @@ is_arithmetic _ = true
 abbrev pub link : BinOp → Typed → TypedLink
 link o part = roll-TypedLink (record { op = o; part = part })
 
--- a chain that has its first part alone
-abbrev pub front_of : Checked → Front
-front_of c = record { first = c; links = [] }
+-- an operator between two resolved parts
+abbrev pub pair : Typed → BinOp → Typed → Typed
+pair left o right = t.Chain left (link o right ∷ [])
 
--- a front as one expression
-abbrev pub whole_of : Checked → List TypedLink → Checked
-whole_of c [] = c
-whole_of c (l ∷ links) = record { literal = None; untyped = c.untyped; typing = c.typing; tree = t.Chain c.tree (l ∷ links) }
+-- an operator behind a resolved part, by its layer: a chain stays flat
+abbrev pub behind_layer : Typed-F Typed TypedLink → Typed → BinOp → Typed → Typed
+behind_layer (Typed-F.Chain first rest) left o right = t.Chain first (rest ++ link o right ∷ [])
+behind_layer _ left o right = pair left o right
 
-abbrev pub whole : Front → Checked
-whole f = whole_of f.first f.links
-
--- all that stands before an operator meets the type of what stands behind it
-abbrev pub meet_behind : Typing → Front → Answer Front
-meet_behind type f =
-    if f.first.untyped && is_number_type type
-    then then_with (take_kind (kind_or_int64 type) (whole f).literal (whole f).tree) (λ c. Ok (front_of c)) else Ok f
-
--- a front with one link more, and what is then known of the whole
-abbrev pub with_link : Front → BinOp → Typed → Bool → Typing → Front
-with_link f o part untyped type = record {
-  first = record { literal = None; untyped = untyped; typing = type; tree = f.first.tree };
-  links = f.links ++ link o part ∷ [];
-}
+-- a resolved part with a further operator behind it
+abbrev pub longer_chain : Typed → BinOp → Typed → Typed
+longer_chain left o right = behind_layer (out-Typed left) left o right
 
 -- two sides whose kinds are settled, by the table of operators
-abbrev pub by_table : BinOp → Bool → Front → Checked → Answer Front
-by_table o untyped f part = then_with (require_type (operator_type o f.first.typing part.typing)) (λ type. Ok (with_link f o part.tree untyped type))
+abbrev pub by_table : BinOp → Bool → Checked → Checked → Answer Checked
+by_table o untyped left right =
+    then_with (require_type (operator_type o left.typing right.typing)) (λ type. Ok (no_literal untyped type (longer_chain left.tree o right.tree)))
 
 -- the operator is LIKE
 abbrev pub is_like : BinOp → Bool
@@ -80,29 +69,29 @@ is_like op.Like = true
 is_like _ = false
 
 -- the untyped one of two sides meets the kind of the other
-abbrev pub meet_sides : BinOp → Front → Checked → Answer Front
-meet_sides o f part = then_with (meet_behind part.typing f) (λ g. then_with (meet_type f.first.typing part) (λ met. by_table o false g met))
+abbrev pub meet_sides : BinOp → Checked → Checked → Answer Checked
+meet_sides o left right = then_with (meet_type right.typing left) (λ a. then_with (meet_type left.typing right) (by_table o false a))
 
--- a link behind a front: LIKE is not built yet; two untyped sides stay untyped under an operator of levels 5 and 4, and are int64 under another
-abbrev pub add_link : BinOp → Front → Checked → Answer Front
-add_link o f part =
+-- an operator between two sides: LIKE is not built yet; two untyped sides stay untyped under an operator of levels 5 and 4, and are int64 under another
+abbrev pub operation : BinOp → Checked → Checked → Answer Checked
+operation o left right =
     if is_like o then refused LATER
-    else (if f.first.untyped && part.untyped then by_table o (is_arithmetic o) f part
-    else (if shares_kind o then meet_sides o f part else by_table o false f part))
+    else (if left.untyped && right.untyped then by_table o (is_arithmetic o) left right
+    else (if shares_kind o then meet_sides o left right else by_table o false left right))
 
 -- an operator of a chain, and the answer for the part behind it
 pub record Step : Type 0 where
   pub op : BinOp
   pub part : Answer Checked
 
--- a front with one step more
-abbrev pub add_step : Front → Step → Answer Front
-add_step f s = then_with s.part (add_link s.op f)
+-- a step behind what is known of all before it
+abbrev pub add_step : Checked → Step → Answer Checked
+add_step c s = then_with s.part (operation s.op c)
 
 -- a chain, from left to right
-abbrev pub add_steps : Front → List Step → Answer Front
-add_steps f [] = Ok f
-add_steps f (s ∷ steps) = then_with (add_step f s) (λ g. add_steps g steps)
+abbrev pub add_steps : Checked → List Step → Answer Checked
+add_steps c [] = Ok c
+add_steps c (s ∷ steps) = then_with (add_step c s) (λ d. add_steps d steps)
 
 -- the last operator is a minus
 abbrev pub ends_with_minus : List UnOp → Bool
@@ -119,18 +108,18 @@ but_last (o ∷ p ∷ ops) = o ∷ but_last (p ∷ ops)
 
 -- operators before a part, by the table of operators; an untyped part stays untyped
 abbrev pub ops_by_table : List UnOp → Checked → Answer Checked
-ops_by_table ops c = then_with (require_type (prefixed_type ops c.typing)) (λ type. Ok (record { literal = None; untyped = c.untyped; typing = type; tree = t.Unary ops c.tree }))
+ops_by_table ops c = then_with (require_type (prefixed_type ops c.typing)) (λ type. Ok (no_literal c.untyped type (t.Unary ops c.tree)))
 
 -- operators, or none, before a part whose literal, if it is one, has its minus
-abbrev pub under : List UnOp → Checked → Answer Checked
-under [] c = Ok c
-under (o ∷ ops) c = ops_by_table (o ∷ ops) c
+abbrev pub ops_before : List UnOp → Checked → Answer Checked
+ops_before [] c = Ok c
+ops_before (o ∷ ops) c = ops_by_table (o ∷ ops) c
 
 -- operators before a part: a minus directly before a literal belongs to it
 abbrev pub apply_ops_by : List UnOp → Option Literal → Checked → Answer Checked
-apply_ops_by ops None c = under ops c
+apply_ops_by ops None c = ops_before ops c
 apply_ops_by ops (Some l) c =
-    if ends_with_minus ops && not l.minus then under (but_last ops) (literal_of (record { minus = true; size = l.size })) else under ops c
+    if ends_with_minus ops && not l.minus then ops_before (but_last ops) (literal_of (record { minus = true; size = l.size })) else ops_before ops c
 
 abbrev pub apply_ops : List UnOp → Checked → Answer Checked
 apply_ops ops c = apply_ops_by ops c.literal c
@@ -166,10 +155,6 @@ in_list negated part list =
     let type = first_kind (part ∷ list) in
     then_with (meet_type type part) (λ a. then_with (meet_each type list) (λ xs.
     then_with (require_type (truth_of (meet_all a.typing (types xs)))) (λ _. Ok (truth negated (t.IsIn a.tree (trees xs))))))
-
--- an operator between two resolved parts
-abbrev pub pair : Typed → BinOp → Typed → Typed
-pair left o right = t.Chain left (link o right ∷ [])
 
 -- `(a >= x) && (a <= y)`
 abbrev pub between_tree : Typed → Typed → Typed → Typed

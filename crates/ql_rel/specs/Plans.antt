@@ -20,10 +20,11 @@ use Rattle.ql_syntax.specs.declared.typed.Typed.{Typed}
 use Rattle.ql_syntax.specs.declared.typed.Typed.TheVariants as t
 use Rattle.ql_value.specs.Kinds.{is_integer, is_truth}
 use Rattle.ql_syntax.specs.declared.typing.Typing.TheVariants.{OfKind}
+use Rattle.ql_syntax.specs.Aggregates.{any_aggregate}
 use Rattle.ql_syntax.specs.Typing.{among}
 use Rattle.ql_rel.specs.declared.scope.Slot.{Slot}
 use Rattle.ql_rel.specs.declared.scope.Scope.{Scope}
-use Rattle.ql_rel.specs.declared.select.Shown.{Shown}
+use Rattle.ql_rel.specs.declared.select.ResultField.{ResultField}
 use Rattle.ql_rel.specs.declared.select.Source.{Source}
 use Rattle.ql_rel.specs.declared.select.Output.{Output}
 use Rattle.ql_rel.specs.declared.select.Limits.{Limits}
@@ -32,9 +33,8 @@ use Rattle.ql_rel.specs.declared.schema.Schema.{Schema}
 use Rattle.ql_rel.specs.declared.schema.TableSchema.{TableSchema}
 use Rattle.ql_rel.specs.Answers.{Answer, refused, refused_at, then_with, all_of}
 use Rattle.ql_rel.specs.Scopes.{is_called, written}
-use Rattle.ql_rel.specs.Checked.{require_type}
+use Rattle.ql_rel.specs.Checked.{of_type, require_type}
 use Rattle.ql_rel.specs.Types.{Ref, plain_name, checked}
-use Rattle.ql_rel.specs.Aggregates.{any_aggregate}
 
 -- the table with a name
 abbrev pub table_named : List ℕ → List TableSchema → Option TableSchema
@@ -118,8 +118,8 @@ field_name None (Some r) = r.column
 field_name None None = []
 
 -- a field
-abbrev pub shown_field : Scope → Option (List ℕ) → Expr → Answer Shown
-shown_field scope alias e = then_with (checked scope true e) (λ c. Ok (record { name = field_name alias (plain_name e); typing = c.typing; tree = c.tree }))
+abbrev pub result_field : Scope → Option (List ℕ) → Expr → Answer ResultField
+result_field scope alias e = then_with (checked scope true e) (λ c. Ok (record { name = field_name alias (plain_name e); expr = c }))
 
 -- the name of a column of `*`: with that of its set, where several sets have one
 abbrev pub star_name : Bool → Option (List ℕ) → List ℕ → List ℕ
@@ -127,12 +127,12 @@ star_name true set column = written set column
 star_name false set column = column
 
 -- a field of `*`, for a place that is a column
-abbrev pub star_field : Bool → ℕ → Slot → Option (List ℕ) → List Shown
+abbrev pub star_field : Bool → ℕ → Slot → Option (List ℕ) → List ResultField
 star_field several at slot None = []
-star_field several at slot (Some column) = record { name = star_name several slot.set column; typing = slot.typing; tree = t.Place at } ∷ []
+star_field several at slot (Some column) = record { name = star_name several slot.set column; expr = of_type slot.typing (t.Place at) } ∷ []
 
 -- the fields of `*`; the first slot has this number
-abbrev pub star_fields : Bool → ℕ → List Slot → List Shown
+abbrev pub star_fields : Bool → ℕ → List Slot → List ResultField
 star_fields several at [] = []
 star_fields several at (slot ∷ slots) = star_field several at slot slot.column ++ star_fields several (suc at) slots
 
@@ -150,36 +150,36 @@ abbrev pub are_several : List Slot → Bool
 are_several slots = nat_lt 1 (named_sets slots)
 
 -- `*`: 6 without a record set
-abbrev pub star : List Slot → Answer (List Shown)
+abbrev pub star : List Slot → Answer (List ResultField)
 star [] = refused COUNT
 star (slot ∷ slots) = Ok (star_fields (are_several (slot ∷ slots)) 0 (slot ∷ slots))
 
 -- fields that are written
-abbrev pub shown_fields : Scope → List Field → Answer (List Shown)
-shown_fields scope fields = all_of (map (λ x. shown_field scope (out-Field x).alias (out-Field x).expr) fields)
+abbrev pub written_fields : Scope → List Field → Answer (List ResultField)
+written_fields scope fields = all_of (map (λ x. result_field scope (out-Field x).alias (out-Field x).expr) fields)
 
 -- what a SELECT shows; no fields stand for `*`
-abbrev pub shown : Scope → List Field → Answer (List Shown)
-shown scope [] = star scope.seen
-shown scope (field ∷ fields) = shown_fields scope (field ∷ fields)
+abbrev pub result_fields : Scope → List Field → Answer (List ResultField)
+result_fields scope [] = star scope.seen
+result_fields scope (field ∷ fields) = written_fields scope (field ∷ fields)
 
 -- an aggregate stands in a field
-abbrev pub any_shown : List Shown → Bool
-any_shown fields = any_aggregate (map (λ x. x.tree) fields)
+abbrev pub any_field_aggregate : List ResultField → Bool
+any_field_aggregate fields = any_aggregate (map (λ x. x.expr.tree) fields)
 
 -- a field as a place behind the row
 abbrev pub place_name : List ℕ → Option (List ℕ)
 place_name [] = None
 place_name (b ∷ name) = Some (b ∷ name)
 
-abbrev pub field_slot : Shown → Slot
-field_slot x = record { set = None; column = place_name x.name; typing = x.typing }
+abbrev pub field_slot : ResultField → Slot
+field_slot x = record { set = None; column = place_name x.name; typing = x.expr.typing }
 
-abbrev pub field_slots : List Shown → List Slot
+abbrev pub field_slots : List ResultField → List Slot
 field_slots fields = map field_slot fields
 
 -- what ORDER BY sees: the fields, and the row where neither DISTINCT nor grouping hides it
-abbrev pub key_scope : Bool → Scope → List Shown → Scope
+abbrev pub key_scope : Bool → Scope → List ResultField → Scope
 key_scope hides row fields = record { seen = (if hides then [] else row.seen); fields = field_slots fields; width = row.width }
 
 -- the list has a member
@@ -187,24 +187,30 @@ abbrev pub is_some_list : {A : Type 0} → List A → Bool
 is_some_list [] = false
 is_some_list (x ∷ xs) = true
 
--- FROM, join, WHERE and GROUP BY
+-- WHERE and GROUP BY, over the row of a FROM
+abbrev pub row_conditions : Scope → Select → Answer Source
+row_conditions row select =
+    then_with (resolve_if is_truth row (out-Select select).filter) (λ filter.
+    then_with (resolve_each row (out-Select select).groups) (λ groups. Ok (record { row = row; filter = filter; groups = groups })))
+
+-- FROM and a join, then WHERE and GROUP BY
 abbrev pub source_of : Schema → Select → Answer Source
 source_of schema select =
     then_with (add_sets schema [] (out-Select select).sets) (λ slots.
-    then_with (without_join (out-Select select).join) (λ _.
-    let row = row_scope slots in
-    then_with (resolve_if is_truth row (out-Select select).filter) (λ filter.
-    then_with (resolve_each row (out-Select select).groups) (λ groups.
-    Ok (record { row = row; filter = filter; groups = groups })))))
+    then_with (without_join (out-Select select).join) (λ _. row_conditions (row_scope slots) select))
 
--- the fields, then ORDER BY; there is grouping where GROUP BY stands or a field has an aggregate
-abbrev pub output_of : Scope → Bool → Select → Answer Output
-output_of row grouped_by select =
-    then_with (shown row (out-Select select).fields) (λ fields.
-    let grouped = grouped_by || any_shown fields in
+-- ORDER BY behind the fields; there is grouping where GROUP BY stands or a field has an aggregate
+abbrev pub keyed_output : Scope → Bool → Select → List ResultField → Answer Output
+keyed_output row grouped_by select fields =
+    let grouped = grouped_by || any_field_aggregate fields in
     then_with (resolve_each (key_scope ((out-Select select).distinct || grouped) row fields) (out-Select select).keys) (λ keys.
-    Ok (record { fields = fields; grouped = grouped; keys = keys })))
+    Ok (record { fields = fields; grouped = grouped; keys = keys }))
 
+-- the fields, then ORDER BY
+abbrev pub output_of : Scope → Bool → Select → Answer Output
+output_of row grouped_by select = then_with (result_fields row (out-Select select).fields) (keyed_output row grouped_by select)
+
+-- LIMIT, then OFFSET
 abbrev pub limits_of : Select → Answer Limits
 limits_of select =
     then_with (resolve_if is_integer (row_scope []) (out-Select select).limit) (λ limit.
@@ -214,7 +220,7 @@ limits_of select =
 -- the parts of a plan together
 abbrev pub plan_of : Option Typed → List Typed → Output → Limits → Plan
 plan_of filter groups output limits = record {
-  fields = map (λ x. x.tree) output.fields;
+  fields = map (λ x. x.expr.tree) output.fields;
   names = map (λ x. x.name) output.fields;
   filter = filter;
   join_on = None;
@@ -229,12 +235,15 @@ plan_of filter groups output limits = record {
   defaults = [];
 }
 
+-- the fields, ORDER BY, LIMIT and OFFSET behind what stands before the fields
+abbrev pub plan_behind : Select → Source → Answer Plan
+plan_behind select source =
+    then_with (output_of source.row (is_some_list source.groups) select) (λ output.
+    then_with (limits_of select) (λ limits. Ok (plan_of source.filter source.groups output limits)))
+
 -- the plan of a SELECT: FROM, join, WHERE, GROUP BY, fields, ORDER BY, LIMIT, OFFSET
 abbrev pub select_plan : Schema → Select → Answer Plan
-select_plan schema select =
-    then_with (source_of schema select) (λ source.
-    then_with (output_of source.row (is_some_list source.groups) select) (λ output.
-    then_with (limits_of select) (λ limits. Ok (plan_of source.filter source.groups output limits))))
+select_plan schema select = then_with (source_of schema select) (plan_behind select)
 
 -- the plan of a statement; all but SELECT are not built yet
 abbrev pub plan : Schema → Statement → Answer Plan

@@ -4,7 +4,7 @@ use Rattle.std.specs.Str.{bytes_eq}
 use Rattle.ql_value.specs.declared.refusal.TheConstants.{NO_COLUMN, AMBIGUOUS}
 use Rattle.ql_rel.specs.declared.scope.Slot.{Slot}
 use Rattle.ql_rel.specs.declared.scope.Scope.{Scope}
-use Rattle.ql_rel.specs.declared.scope.Found.{Found}
+use Rattle.ql_rel.specs.declared.scope.RowPlace.{RowPlace}
 use Rattle.ql_rel.specs.Answers.{Answer, refused_at}
 
 -- it has this name
@@ -28,14 +28,14 @@ is_of_column None s = is_nameless s.column
 is_of_column (Some column) s = is_called s.column column
 
 -- the places that a name may mean; the first slot has this number
-abbrev pub found : Option (List ℕ) → Option (List ℕ) → ℕ → List Slot → List Found
-found set column at [] = []
-found set column at (s ∷ slots) =
-    if is_of_set set s && is_of_column column s then record { at = at; typing = s.typing } ∷ found set column (suc at) slots
-    else found set column (suc at) slots
+abbrev pub places_named : Option (List ℕ) → Option (List ℕ) → ℕ → List Slot → List RowPlace
+places_named set column at [] = []
+places_named set column at (s ∷ slots) =
+    if is_of_set set s && is_of_column column s then record { at = at; typing = s.typing } ∷ places_named set column (suc at) slots
+    else places_named set column (suc at) slots
 
 -- the one place of them: 2 where there is none, 3 where there are several
-abbrev pub the_one : List ℕ → List Found → Answer Found
+abbrev pub the_one : List ℕ → List RowPlace → Answer RowPlace
 the_one name [] = refused_at NO_COLUMN name
 the_one name (f ∷ []) = Ok f
 the_one name (f ∷ g ∷ more) = refused_at AMBIGUOUS name
@@ -46,20 +46,20 @@ written None column = column
 written (Some set) column = set ++ (46 ∷ column)
 
 -- the first list, or the second where that is empty
-abbrev pub first_some : List Found → List Found → List Found
+abbrev pub first_some : List RowPlace → List RowPlace → List RowPlace
 first_some [] more = more
 first_some (f ∷ fs) more = f ∷ fs
 
 -- what `c` or `T.c` means: a field whose name is so written, else a column of the row
-abbrev pub column_place : Scope → Option (List ℕ) → List ℕ → Answer Found
+abbrev pub column_place : Scope → Option (List ℕ) → List ℕ → Answer RowPlace
 column_place scope set column =
     the_one (written set column)
-    (first_some (found None (Some (written set column)) scope.width scope.fields) (found set (Some column) 0 scope.seen))
+    (first_some (places_named None (Some (written set column)) scope.width scope.fields) (places_named set (Some column) 0 scope.seen))
 
 -- what `id()` means: the id of the only record set
-abbrev pub id_place : Scope → Answer Found
-id_place scope = the_one (105 ∷ 100 ∷ []) (found None None 0 scope.seen)
+abbrev pub id_place : Scope → Answer RowPlace
+id_place scope = the_one (105 ∷ 100 ∷ []) (places_named None None 0 scope.seen)
 
 -- what `id(T)` means: the id of the record set with that name
-abbrev pub id_place_of : Scope → List ℕ → Answer Found
-id_place_of scope set = the_one set (found (Some set) None 0 scope.seen)
+abbrev pub id_place_of : Scope → List ℕ → Answer RowPlace
+id_place_of scope set = the_one set (places_named (Some set) None 0 scope.seen)

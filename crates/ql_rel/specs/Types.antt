@@ -1,12 +1,13 @@
 -- The type of an expression in a scope, and the resolved expression; or the first refusal. All refusals of a part come before those of the expression that holds it.
 use Rattle.std.specs.Prelude.{ℕ, Bool, true, false, if◌then◌else◌, List, [], ◌∷◌, map, Option, Some, None, Ok}
+use Rattle.ql_syntax.specs.Aggregates.{is_aggregate}
+use Rattle.ql_syntax.specs.PartFolds.{Parts, LinkParts, fold_parts, fold_link_parts}
 use Rattle.ql_value.specs.declared.operator.BinOp.{BinOp}
 use Rattle.ql_value.specs.declared.refusal.TheConstants.{TYPE, COUNT, LATER}
 use Rattle.ql_value.specs.declared.value.Kind.TheVariants as k
 use Rattle.ql_value.specs.declared.value.Value.TheVariants as v
 use Rattle.ql_syntax.specs.declared.syntax.Expr.{Expr, out-Expr}
-use Rattle.ql_syntax.specs.declared.syntax.Expr.TheOpen.{Expr-F, Link-F}
-use Rattle.ql_syntax.specs.declared.syntax.Expr.TheFolds.{fold-Expr, fold-Link}
+use Rattle.ql_syntax.specs.declared.syntax.Expr.TheOpen.{Expr-F}
 use Rattle.ql_syntax.specs.declared.syntax.Field.{Field}
 use Rattle.ql_syntax.specs.declared.syntax.FromSet.{FromSet}
 use Rattle.ql_syntax.specs.declared.syntax.Function.{Function}
@@ -19,12 +20,12 @@ use Rattle.ql_syntax.specs.declared.typed.Typed.TheVariants as t
 use Rattle.ql_syntax.specs.declared.typing.Typing.TheVariants.{OnlyNull, OfKind}
 use Rattle.ql_rel.specs.declared.checked.Checked.{Checked}
 use Rattle.ql_rel.specs.declared.scope.Scope.{Scope}
-use Rattle.ql_rel.specs.declared.scope.Found.{Found}
+use Rattle.ql_rel.specs.declared.scope.RowPlace.{RowPlace}
 use Rattle.ql_rel.specs.Answers.{Answer, refused, then_with, all_of}
 use Rattle.ql_rel.specs.Scopes.{column_place, id_place, id_place_of}
 use Rattle.ql_rel.specs.Checked.{of_type, literal_of, in_brackets}
-use Rattle.ql_rel.specs.Operands.{Step, front_of, whole, add_steps, apply_ops, in_list, between, null_test}
-use Rattle.ql_rel.specs.Calls.{convert_to, row_call, is_aggregate, allowed_call}
+use Rattle.ql_rel.specs.Operands.{Step, add_steps, apply_ops, in_list, between, null_test}
+use Rattle.ql_rel.specs.Calls.{convert_to, row_call, allowed_call}
 
 -- a plain name, `c` or `T.c`
 pub record Ref : Type 0 where
@@ -54,7 +55,7 @@ abbrev pub of_answer : (Bool → Answer Checked) → Judged
 of_answer answer = record { ref = None; answer = answer }
 
 -- a part with its kind, at a place of the row
-abbrev pub at_place : Answer Found → Answer Checked
+abbrev pub at_place : Answer RowPlace → Answer Checked
 at_place place = then_with place (λ p. Ok (of_type p.typing (t.Place p.at)))
 
 -- the answers for parts
@@ -105,8 +106,8 @@ abbrev pub text_of : List ℕ → Checked
 text_of bytes = of_type (OfKind k.Text) (t.Constant (v.Text bytes))
 
 -- an expression of one layer, from the answers for its parts
-abbrev pub expr_step : Scope → Expr-F Judged (Unit {0}) (Unit {0}) (Unit {0}) (Unit {0}) JudgedLink (Unit {0}) → Judged
-expr_step scope (Expr-F.Chain first rest) = of_answer (λ a. then_with (first.answer a) (λ c. then_with (add_steps (front_of c) (steps a rest)) (λ g. Ok (whole g))))
+abbrev pub expr_step : Scope → Parts Judged JudgedLink → Judged
+expr_step scope (Expr-F.Chain first rest) = of_answer (λ a. then_with (first.answer a) (λ c. add_steps c (steps a rest)))
 expr_step scope (Expr-F.Unary ops part) = of_answer (λ a. then_with (part.answer a) (apply_ops ops))
 expr_step scope (Expr-F.Number n) = of_answer (λ a. Ok (literal_of (record { minus = false; size = n })))
 expr_step scope (Expr-F.Text bytes) = of_answer (λ a. Ok (text_of bytes))
@@ -123,16 +124,16 @@ expr_step scope (Expr-F.IsBetween negated part low high) =
 expr_step scope (Expr-F.IsNull negated part) = of_answer (λ a. then_with (part.answer a) (λ c. Ok (null_test negated c)))
 
 -- an operator of a chain and the part behind it
-abbrev pub link_step : Link-F Judged (Unit {0}) (Unit {0}) (Unit {0}) (Unit {0}) JudgedLink (Unit {0}) → JudgedLink
+abbrev pub link_step : LinkParts Judged JudgedLink → JudgedLink
 link_step l = record { op = l.op; part = l.part }
 
 -- what is said of an expression in a scope
 abbrev pub judge : Scope → Expr → Judged
-judge scope = fold-Expr Judged (Unit {0}) (Unit {0}) (Unit {0}) (Unit {0}) JudgedLink (Unit {0}) (expr_step scope) (λ _. tt) (λ _. tt) (λ _. tt) (λ _. tt) link_step (λ _. tt)
+judge scope = fold_parts Judged JudgedLink (expr_step scope) link_step
 
 -- the same of a link of a chain
 abbrev pub judge_link : Scope → Link → JudgedLink
-judge_link scope = fold-Link Judged (Unit {0}) (Unit {0}) (Unit {0}) (Unit {0}) JudgedLink (Unit {0}) (expr_step scope) (λ _. tt) (λ _. tt) (λ _. tt) (λ _. tt) link_step (λ _. tt)
+judge_link scope = fold_link_parts Judged JudgedLink (expr_step scope) link_step
 
 -- what is known of an expression in a scope, or its first refusal; the truth says whether an aggregate may stand there
 abbrev pub checked : Scope → Bool → Expr → Answer Checked

@@ -1,7 +1,7 @@
 //! What is known of an expression whose names are resolved.
 
 use ql_edge::Items;
-use ql_syntax::{Typed, TypedLinks, Typing};
+use ql_syntax::{Typed, Typing};
 
 /// An integer literal, with or without one minus before it.
 #[derive(Clone, Copy, Debug)]
@@ -25,11 +25,3 @@ pub struct Checked {
 
 /// Expressions in the order of the text.
 pub type CheckedList = Items<Checked>;
-
-/// The front of a chain: what is known of the whole, but for its tree, which is that of the first part; and the links
-/// behind that.
-#[derive(Drop)]
-pub struct Front {
-    pub first: Checked,
-    pub links: TypedLinks,
-}

@@ -1,18 +1,41 @@
-//! Tables as values, their schema, what an expression sees and what is known of it, and the plans of statements.
+//! Tables as values, their schema, what an expression sees and what is known of it, the plans of statements, and the trait
+//! over tables.
 #![tactic(auto)]
 
+mod bounds;
 mod checked;
 mod db;
+mod fault;
+mod fitting;
+mod laws;
 mod limit;
+mod meaning_laws;
+mod number;
 mod plan;
+mod rel;
 mod schema;
+mod schema_copy;
 mod scope;
 mod select;
+mod text_limit;
 
-pub use checked::{Checked, CheckedList, Front, Literal};
+pub use bounds::{
+    BRACKET_LIMIT, COLUMN_LIMIT, INDEX_LIMIT, KEY_LIMIT, LAST_ID, ROW_LIMIT, TEXT_LIMIT,
+};
+pub use checked::{Checked, CheckedList, Literal};
 pub use db::{Db, Row, Rows, Table, Tables};
+pub use fault::RelFault;
+pub use fitting::is_row_of;
+pub use laws::{change_laws, form_laws};
 pub use limit::TABLE_LIMIT;
+pub use meaning_laws::{event_laws, plan_laws};
+pub use number::{IDS_SPENT, KEY_TOO_LONG, RESERVED, ROW_TOO_LONG, TABLE_LIMIT_REFUSAL};
 pub use plan::Plan;
+pub use rel::Rel;
 pub use schema::{Index, Indexes, Schema, TableSchema, TableSchemas};
-pub use scope::{Found, Scope, Slot, Slots};
-pub use select::{Limits, Output, Shown, ShownList, Source};
+pub use schema_copy::{
+    add_columns, add_tables, copy_column, copy_index, copy_name, copy_schema, copy_table,
+};
+pub use scope::{RowPlace, Scope, Slot, Slots};
+pub use select::{Limits, Output, ResultField, ResultFields, Source};
+pub use text_limit::is_past_text;

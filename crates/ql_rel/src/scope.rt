@@ -27,7 +27,7 @@ pub struct Scope {
 
 /// A place that a name may mean, by its number.
 #[derive(Clone, Copy, Debug)]
-pub struct Found {
+pub struct RowPlace {
     pub at: u32,
     pub typing: Typing,
 }

@@ -1,8 +1,9 @@
 //! The parts of a SELECT as they are checked in turn.
 
+use crate::checked::Checked;
 use crate::scope::Scope;
 use ql_edge::{Bytes, Items};
-use ql_syntax::{Typed, Typeds, Typing};
+use ql_syntax::{Typed, Typeds};
 
 /// What stands before the fields of a SELECT.
 #[derive(Drop)]
@@ -14,21 +15,22 @@ pub struct Source {
     pub groups: Typeds,
 }
 
-/// What a SELECT shows in one column. The name is empty where there is none.
+/// What a SELECT shows in one column.
 #[derive(Drop)]
-pub struct Shown {
+pub struct ResultField {
+    /// Its name, empty where it has none.
     pub name: Bytes,
-    pub typing: Typing,
-    pub tree: Typed,
+    /// What is known of its expression: also whether it is a literal, and whether it is untyped.
+    pub expr: Checked,
 }
 
 /// What a SELECT shows.
-pub type ShownList = Items<Shown>;
+pub type ResultFields = Items<ResultField>;
 
 /// What a SELECT shows, whether there is grouping, and by what it is ordered.
 #[derive(Drop)]
 pub struct Output {
-    pub fields: ShownList,
+    pub fields: ResultFields,
     pub grouped: bool,
     pub keys: Typeds,
 }

@@ -5,9 +5,9 @@ use Rattle.ql_edge.specs.Told.{Told, with_shown, ShowsFront}
 use Rattle.ql_shell.specs.Comes.{longest_script}
 use Rattle.ql_shell.specs.Line.{line_of}
 use Rattle.ql_shell.specs.Meaning.{Answer}
-use Rattle.ql_shell.specs.declared.status.ScriptFault.TheVariants.{TooLong}
+use Rattle.ql_shell.specs.declared.status.ScriptFault.TheVariants.{TooLong, BadByte, BadLiteral, Unclosed, Unexpected, TooNested}
 use Rattle.ql_shell.specs.declared.status.Status.{Status}
-use Rattle.ql_shell.specs.declared.status.Status.TheVariants.{Done, Script, Usage, Fault, NoMemory}
+use Rattle.ql_shell.specs.declared.status.Status.TheVariants.{Done, Script, Refused, Usage, Fault, NoMemory}
 use Rattle.ql_shell.specs.declared.words.Command.{Command}
 use Rattle.ql_shell.specs.declared.words.Command.TheVariants as command
 
@@ -15,7 +15,10 @@ use Rattle.ql_shell.specs.declared.words.Command.TheVariants as command
 abbrev pub IsFinal : Status → Type 0
 IsFinal Fault = ⊥
 IsFinal NoMemory = ⊥
-IsFinal _ = Unit {0}
+IsFinal Done = Unit {0}
+IsFinal (Script _) = Unit {0}
+IsFinal (Refused _ _) = Unit {0}
+IsFinal (Usage _) = Unit {0}
 
 -- the answer was given, or a front of its text was shown before a fault or want of memory
 abbrev pub Gives : Answer → Status → Told → Told → Type 0
@@ -63,18 +66,25 @@ IsShown text before now = now ≡ option_map (λ shown. shown ++ text) before
 abbrev pub IsRefusedWhole : Status → Type 0
 IsRefusedWhole (Usage _) = Unit {0}
 IsRefusedWhole (Script _) = Unit {0}
-IsRefusedWhole _ = ⊥
+IsRefusedWhole Done = ⊥
+IsRefusedWhole (Refused _ _) = ⊥
+IsRefusedWhole Fault = ⊥
+IsRefusedWhole NoMemory = ⊥
 
 -- the statements of a script were carried out, up to the end, a refusal, a fault or want of memory
 abbrev pub EndsStatements : Status → Type 0
 EndsStatements (Usage _) = ⊥
 EndsStatements (Script _) = ⊥
-EndsStatements _ = Unit {0}
+EndsStatements Done = Unit {0}
+EndsStatements (Refused _ _) = Unit {0}
+EndsStatements Fault = Unit {0}
+EndsStatements NoMemory = Unit {0}
 
 -- the script is told: by the words, or by the machine where it comes from there
 abbrev pub TellsScript : Command → Option (List ℕ) → Type 0
 TellsScript command.Input input = IsSome input
-TellsScript _ input = Unit {0}
+TellsScript (command.Usage _) input = Unit {0}
+TellsScript (command.Text _) input = Unit {0}
 
 -- a script is on hand: that of the words, or what standard input has
 abbrev pub IsScript : Command → Option (List ℕ) → List ℕ → Type 0
@@ -100,7 +110,15 @@ EndsEarly asked input _ = ⊥
 abbrev pub EndsScript : Status → Type 0
 EndsScript (Usage _) = ⊥
 EndsScript (Script TooLong) = ⊥
-EndsScript _ = Unit {0}
+EndsScript (Script (BadByte _)) = Unit {0}
+EndsScript (Script (BadLiteral _)) = Unit {0}
+EndsScript (Script (Unclosed _)) = Unit {0}
+EndsScript (Script (Unexpected _)) = Unit {0}
+EndsScript (Script (TooNested _)) = Unit {0}
+EndsScript Done = Unit {0}
+EndsScript (Refused _ _) = Unit {0}
+EndsScript Fault = Unit {0}
+EndsScript NoMemory = Unit {0}
 
 -- how much of standard input was read for a script: all of it, but for one that is too long, a fault and want of memory
 abbrev pub TakesInput : Status → Option (List ℕ) → Option (List ℕ) → Type 0

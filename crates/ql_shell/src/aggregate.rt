@@ -1,9 +1,9 @@
 //! Whether an aggregate is called in an expression.
 ghost use Rattle.std.specs.Prelude.{◌≡◌, map};
+ghost use Rattle.ql_syntax.specs.Aggregates.{is_any};
 ghost use Rattle.ql_rel.specs.Aggregates as spec;
 ghost use Rattle.ql_syntax.specs.declared.syntax.Field.{out-Field};
 
-use ql_check::is_aggregate;
 use ql_syntax::{Expr, Exprs, Fields, Link, Links};
 
 /// Whether an aggregate is called in an expression. A SELECT within it is not looked into.
@@ -25,7 +25,7 @@ fn calls_aggregate(expr: &Expr) -> bool
             function,
             parts,
             ..
-        } => is_aggregate(*function) || any_calls_aggregate(parts),
+        } => function.is_aggregate() || any_calls_aggregate(parts),
         Expr::Convert { part, .. } => calls_aggregate(part.get()),
         Expr::IsIn { part, list, .. } => calls_aggregate(part.get())
             || any_calls_aggregate(list.get()),
@@ -66,7 +66,7 @@ fn link_calls_aggregate(link: &Link) -> bool
 /// Whether one is called in one of the links of a chain.
 #[cycle(aggregate)]
 fn any_link_calls_aggregate(links: &Links) -> bool
-    ensures { result ≡ spec.is_any (map spec.link_calls_aggregate links.now) }
+    ensures { result ≡ is_any (map spec.link_calls_aggregate links.now) }
 {
     'links: for link in links.as_slice() {
         if link_calls_aggregate(link) {

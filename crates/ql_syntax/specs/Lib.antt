@@ -12,3 +12,6 @@ pub mod Values
 pub mod Typing
 pub mod StoredParts
 pub mod SameTokens
+pub mod PartFolds
+pub mod Aggregates
+pub mod GroupTyping

@@ -1,3 +1,6 @@
+ghost use Rattle.std.specs.Prelude.{◌≡◌};
+ghost use Rattle.ql_syntax.specs.Aggregates as spec;
+
 use ql_edge::{Boxed, Bytes, Items, Name};
 use ql_value::{BinOp, Kind, UnOps};
 
@@ -15,6 +18,23 @@ pub enum Function {
     Avg,
     Min,
     Max,
+}
+
+impl Function {
+    /// Whether it is an aggregate, which gives a value of the rows of a group.
+    pub fn is_aggregate(self) -> bool
+        ensures { result ≡ spec.is_aggregate self }
+    {
+        match self {
+            Function::Count | Function::Sum | Function::Avg | Function::Min | Function::Max => true,
+            Function::Id
+            | Function::Len
+            | Function::Contains
+            | Function::HasPrefix
+            | Function::HasSuffix
+            | Function::Coalesce => false,
+        }
+    }
 }
 
 /// An expression as it is written. A part that stands alone in its place is that part.

@@ -1,4 +1,4 @@
-//! Tests that cross crates, over a machine in memory.
+//! Tests of whole runs, over a machine in memory.
 #![tactic(auto)]
 
 #[cfg(test)]
@@ -6,10 +6,6 @@ mod machine;
 #[cfg(test)]
 mod made;
 #[cfg(test)]
-mod print;
-#[cfg(test)]
 mod script;
-#[cfg(test)]
-mod statements;
 #[cfg(test)]
 mod words;

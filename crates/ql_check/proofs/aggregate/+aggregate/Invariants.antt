@@ -1,5 +1,5 @@
 use Rattle.std.proofs.Common.{◌≡◌, map, drop}
-use Rattle.ql_rel.specs.Aggregates as spec
+use Rattle.ql_syntax.specs.Aggregates as spec
 use Rattle.ql_check.proofs.aggregate.+aggregate.Given as goal
 
 -- none stands in the parts before

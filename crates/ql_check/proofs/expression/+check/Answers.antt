@@ -1,5 +1,6 @@
-use Rattle.std.proofs.Common.{◌≡◌, ◌<◌, sym, subst, length, get_or}
+use Rattle.std.proofs.Common.{◌≡◌, ◌<◌, sym, ap, subst, length, get_or}
 use Rattle.ql_rel.specs.Types as spec
+use Rattle.ql_check.specs.declared.fault.CheckFault.TheVariants as fault
 use Rattle.ql_check.proofs.Ids.{id_named, id_of_fault, id_of_other}
 use Rattle.ql_check.proofs.Turns.{turn_at}
 use Rattle.ql_check.proofs.expression.+check.Goals as goal
@@ -30,4 +31,4 @@ pub id_of_part-returns-in_ok-check_expr-in-None : goal.id_of_part-returns-in_ok-
 id_of_part-returns-in_ok-check_expr-in-None t c =
     let s = c.args.scope.now in
     let j = spec.judge s c.args.part.now in
-    id_of_other s (spec.bare_name j.ref) (j.answer c.args.aggregates) c.in_ok-check_expr-in-None.field-0 c.refused.result (sym (c.in-None.ensures s)) c.in_ok-check_expr-in-None.ensures c.refused.ensures
+    id_of_other s (spec.bare_name j.ref) (j.answer c.args.aggregates) c.in_ok-check_expr-in-None.field-0 (fault.Refused c.new.result) (sym (c.in-None.ensures s)) c.in_ok-check_expr-in-None.ensures (ap fault.Refused c.new.ensures)

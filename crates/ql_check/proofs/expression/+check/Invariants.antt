@@ -4,9 +4,9 @@ use Rattle.ql_rel.specs.Types as spec
 use Rattle.ql_check.proofs.Turns.{behind}
 use Rattle.ql_check.proofs.expression.+check.Given as goal
 
--- the links that are left, behind the front so far, give what all of them give
+-- the links that are left, behind what stands before them, give what all of them give
 abbrev pub invariant-check_links-links : goal.invariant-check_links-links
-invariant-check_links-links l = operands.add_steps l.front (spec.steps l.aggregates (map (spec.judge_link l.scope) (drop l.link-index l.links))) ≡ operands.add_steps (operands.front_of l.fn.first) (spec.steps l.aggregates (map (spec.judge_link l.scope) l.links))
+invariant-check_links-links l = operands.add_steps l.before (spec.steps l.aggregates (map (spec.judge_link l.scope) (drop l.link-index l.links))) ≡ operands.add_steps l.fn.first (spec.steps l.aggregates (map (spec.judge_link l.scope) l.links))
 
 -- the expressions so far, and those that are left
 abbrev pub invariant-check_exprs-exprs : goal.invariant-check_exprs-exprs

@@ -1,4 +1,5 @@
 use Rattle.std.proofs.Common.{◌≡◌, map, drop}
+use Rattle.ql_syntax.specs.Aggregates.{is_any}
 use Rattle.ql_rel.specs.Aggregates as spec
 use Rattle.ql_shell.proofs.aggregate.+aggregate.Given as goal
 
@@ -8,4 +9,4 @@ invariant-any_calls_aggregate-parts l = spec.any_calls_aggregate (drop l.part-in
 
 -- none is called in the links before
 abbrev pub invariant-any_link_calls_aggregate-links : goal.invariant-any_link_calls_aggregate-links
-invariant-any_link_calls_aggregate-links l = spec.is_any (map spec.link_calls_aggregate (drop l.link-index l.links)) ≡ spec.is_any (map spec.link_calls_aggregate l.links)
+invariant-any_link_calls_aggregate-links l = is_any (map spec.link_calls_aggregate (drop l.link-index l.links)) ≡ is_any (map spec.link_calls_aggregate l.links)

@@ -1,7 +1,0 @@
-use Rattle.std.proofs.Common.{◌≡◌, ◌++◌, drop}
-use Rattle.ql_rel.specs.Plans as spec
-use Rattle.ql_check.proofs.shown.field_slots.Given as goal
-
--- the slots so far, and those of the fields that are left
-abbrev pub invariant-fields : goal.invariant-fields
-invariant-fields l = l.slots ++ spec.field_slots (drop l.field-index l.fields) ≡ spec.field_slots l.fields

@@ -1,0 +1,217 @@
+//! What a SELECT shows.
+
+ghost use Rattle.std.specs.Prelude.{◌≡◌, ◌++◌, None, IfOk};
+ghost use Rattle.ql_syntax.specs.declared.syntax.Field.{out-Field};
+ghost use Rattle.ql_rel.specs.Plans as spec;
+ghost use Rattle.ql_rel.specs.Types.{plain_name};
+ghost use Rattle.ql_check.specs.Gives.{Gives};
+ghost use Rattle.ql_check.specs.Outputs.{name_or_none};
+
+use crate::CheckFault;
+use crate::aggregate::has_aggregate;
+use crate::checked::of_type;
+use crate::expression::check_expr;
+use crate::scope::qualified_name;
+use ql_edge::{Boxed, Bytes, Name, NoMemory};
+use ql_rel::{ResultField, ResultFields, Scope, Slot, Slots};
+use ql_syntax::{Expr, Field, Fields, Typed};
+use ql_value::{COUNT, Refusal};
+use std::alloc::Global;
+
+/// The name of the column that an expression is, with or without its table.
+fn column_name(expr: &Expr) -> Option<&Name>
+    ensures { spec.field_name None (plain_name expr.now) ≡ name_or_none result }
+{
+    match expr {
+        Expr::Column { column, .. } => Some(column.get()),
+        Expr::Chain { .. }
+        | Expr::Unary { .. }
+        | Expr::Number(_)
+        | Expr::Text(_)
+        | Expr::Truth(_)
+        | Expr::Null
+        | Expr::Paren(_)
+        | Expr::Call { .. }
+        | Expr::Convert { .. }
+        | Expr::IsIn { .. }
+        | Expr::IsInSelect { .. }
+        | Expr::IsBetween { .. }
+        | Expr::IsNull { .. } => None,
+    }
+}
+
+/// The name of a field.
+fn field_name(alloc: Global, alias: &Option<Boxed<Name>>, expr: &Expr) -> Result<Bytes, NoMemory>
+    ensures { IfOk result (λ name. name ≡ spec.field_name alias.now (plain_name expr.now)) }
+{
+    match alias {
+        Some(alias) => Bytes::from_slice(alloc, alias.get().as_slice()),
+        None => match column_name(expr) {
+            Some(name) => Bytes::from_slice(alloc, name.as_slice()),
+            None => Ok(Bytes::new(alloc)),
+        },
+    }
+}
+
+/// A field.
+fn result_field(alloc: Global, scope: &Scope, field: &Field) -> Result<ResultField, CheckFault>
+    ensures { let layer = out-Field field.now in
+        Gives (spec.result_field scope.now layer.alias layer.expr) result }
+{
+    let expr = check_expr(alloc, &field.expr, scope, true)?;
+    let name = field_name(alloc, &field.alias, &field.expr)?;
+    Ok(ResultField { name, expr })
+}
+
+/// Fields that are written.
+fn written_fields(alloc: Global, scope: &Scope, fields: &Fields) -> Result<ResultFields, CheckFault>
+    ensures { Gives (spec.written_fields scope.now fields.now) result }
+{
+    let mut list = ResultFields::new(alloc);
+    'fields: for field in fields.as_slice() {
+        list.push(result_field(alloc, scope, field)?)?;
+    }
+    Ok(list)
+}
+
+/// Whether the slot is the id of a record set with a name.
+fn is_named_set(slot: &Slot) -> bool
+    ensures { result ≡ spec.is_named_set slot.now.set slot.now.column }
+{
+    match (&slot.set, &slot.column) {
+        (Some(_), None) => true,
+        _ => false,
+    }
+}
+
+/// Whether two record sets or more have a name.
+fn are_several(slots: &[Slot]) -> bool
+    ensures { result ≡ spec.are_several slots.now }
+{
+    let mut one = false;
+    'slots: for slot in slots {
+        if is_named_set(slot) {
+            if one {
+                return true;
+            }
+            one = true;
+        }
+    }
+    false
+}
+
+/// The name of a column of `*`.
+fn star_name(
+    alloc: Global,
+    several: bool,
+    set: &Option<Bytes>,
+    column: &[u8],
+) -> Result<Bytes, NoMemory>
+    ensures { IfOk result (λ name. name ≡ spec.star_name several set.now column.now) }
+{
+    match (several, set) {
+        (true, Some(set)) => qualified_name(alloc, set.as_slice(), column),
+        _ => Bytes::from_slice(alloc, column),
+    }
+}
+
+/// The fields so far, with that of a slot which is a column.
+fn add_star_field(
+    alloc: Global,
+    several: bool,
+    at: u32,
+    slot: &Slot,
+    before: ResultFields,
+) -> Result<ResultFields, NoMemory>
+    ensures { let more = spec.star_field several at slot.now slot.now.column in
+        IfOk result (λ list. list ≡ before ++ more) }
+{
+    let Some(column) = &slot.column else {
+        return Ok(before);
+    };
+    let name = star_name(alloc, several, &slot.set, column.as_slice())?;
+    let mut list = before;
+    list.push(ResultField {
+        name,
+        expr: of_type(slot.typing, Typed::Place { at }),
+    })?;
+    Ok(list)
+}
+
+/// The fields of `*`.
+fn star_fields(alloc: Global, several: bool, slots: &[Slot]) -> Result<ResultFields, NoMemory>
+    ensures { IfOk result (λ list. list ≡ spec.star_fields several 0 slots.now) }
+{
+    let mut list = ResultFields::new(alloc);
+    let mut at = 0;
+    'slots: for slot in slots {
+        list = add_star_field(alloc, several, at, slot, list)?;
+        at = match at.checked_add(1) {
+            Some(next) => next,
+            None => return Err(NoMemory),
+        };
+    }
+    Ok(list)
+}
+
+/// `*`
+fn star(alloc: Global, slots: &[Slot]) -> Result<ResultFields, CheckFault>
+    ensures { Gives (spec.star slots.now) result }
+{
+    if slots.is_empty() {
+        return Err(CheckFault::Refused(Refusal::new(alloc, COUNT)));
+    }
+    Ok(star_fields(alloc, are_several(slots), slots)?)
+}
+
+/// What a SELECT shows.
+pub(crate) fn fields_of(
+    alloc: Global,
+    scope: &Scope,
+    fields: &Fields,
+) -> Result<ResultFields, CheckFault>
+    ensures { Gives (spec.result_fields scope.now fields.now) result }
+{
+    if fields.len() == 0 {
+        return star(alloc, scope.seen.as_slice());
+    }
+    written_fields(alloc, scope, fields)
+}
+
+/// Whether an aggregate stands in one of the fields.
+pub(crate) fn any_aggregate(fields: &[ResultField]) -> bool
+    ensures { result ≡ spec.any_field_aggregate fields.now }
+{
+    'fields: for field in fields {
+        if has_aggregate(&field.expr.tree) {
+            return true;
+        }
+    }
+    false
+}
+
+/// A field as a place behind the row.
+fn field_slot(alloc: Global, field: &ResultField) -> Result<Slot, NoMemory>
+    ensures { IfOk result (λ slot. slot ≡ spec.field_slot field.now) }
+{
+    let mut column = None;
+    if field.name.len() > 0 {
+        column = Some(Bytes::from_slice(alloc, field.name.as_slice())?);
+    }
+    Ok(Slot {
+        set: None,
+        column,
+        typing: field.expr.typing,
+    })
+}
+
+/// The fields as places behind the row.
+pub(crate) fn field_slots(alloc: Global, fields: &[ResultField]) -> Result<Slots, NoMemory>
+    ensures { IfOk result (λ slots. slots ≡ spec.field_slots fields.now) }
+{
+    let mut slots = Slots::new(alloc);
+    'fields: for field in fields {
+        slots.push(field_slot(alloc, field)?)?;
+    }
+    Ok(slots)
+}

@@ -1,0 +1,74 @@
+-- The effect of a statement leaves a database lawful.
+use Rattle.std.proofs.Common.{◌≡◌, ℕ, Bool, true, false, List, [], Ok, Err, refl, ap, subst}
+use Rattle.ql_syntax.specs.declared.statement.ColumnDef.{ColumnDef}
+use Rattle.ql_syntax.specs.declared.statement.RowSource.{RowSource}
+use Rattle.ql_syntax.specs.declared.statement.Statement.{Statement}
+use Rattle.ql_syntax.specs.declared.statement.Statement.TheVariants as s
+use Rattle.ql_rel.specs.declared.db.Db.{Db}
+use Rattle.ql_rel.specs.declared.fault.RelFault.TheVariants as fault
+use Rattle.ql_rel.specs.declared.plan.Plan.{Plan}
+use Rattle.ql_rel.specs.declared.schema.TableSchema.{TableSchema}
+use Rattle.ql_rel.specs.Answers.{Answer, then_with}
+use Rattle.ql_rel.specs.Changes.{table_created}
+use Rattle.ql_rel.specs.Databases.{schema_of, columns_at}
+use Rattle.ql_rel.specs.InsertPlans.{insert_plan}
+use Rattle.ql_rel.specs.FormLaws.{FormLaws}
+use Rattle.ql_rel.specs.Lawful.{IsLawful}
+use Rattle.ql_rel.specs.Limits.{is_past_table}
+use Rattle.ql_rel.specs.NewNames.{place_named}
+use Rattle.ql_rel.specs.Refusals.{refused_if}
+use Rattle.ql_rel.specs.SelectRows.{select_text}
+use Rattle.ql_rel.specs.StatementEffects.{unless, table_added, rows_added, rows_values, inserts, silent, carried, statement_effect}
+use Rattle.ql_rel.specs.StatementPlans.{statement_plan}
+use Rattle.ql_syntax.specs.ReadsBack.{IsReadBack}
+use Rattle.ql_rel.proofs.CreateLemmas.{has_plan}
+use Rattle.ql_rel.proofs.Fits.{then_ok, same_ok}
+use Rattle.ql_exec.proofs.Fitted.{rows_fit}
+use Rattle.ql_exec.proofs.LawfulRows.{rows_lawful}
+use Rattle.ql_exec.proofs.LawfulTables.{create_lawful}
+use Rattle.ql_exec.proofs.Planned.{insert_says}
+use Rattle.ql_exec.proofs.ReadBack.{reads_itself}
+
+made_if : (b : Bool) (x y : Db) → unless (refused_if b fault.TableLimit) x ≡ Ok y → (b ≡ false) × (x ≡ y)
+made_if true x y e = absurd (cc)
+made_if false x y e = (refl, same_ok x y e)
+
+second : (t text : List ℕ) (d after : Db) → ◌≡◌ {A = Answer (List ℕ × Db)} (Ok (t, d)) (Ok (text, after)) → d ≡ after
+second t text d after e = let pairs : ◌≡◌ {A = List ℕ × Db} (t, d) (text, after) = same_ok (t, d) (text, after) e in ap (λ (x : List ℕ × Db). x.1) pairs
+
+-- a change that shows nothing
+silent_is : (effect : Answer Db) (text : List ℕ) (after : Db) → then_with effect silent ≡ Ok (text, after) → effect ≡ Ok after
+silent_is (Ok d) text after e = ap Ok (second [] text d after e)
+silent_is (Err r) text after e = absurd (cc)
+
+create_keeps : (laws : FormLaws) (quiet : Bool) (name : List ℕ) (columns : List ColumnDef) (p : Plan) (db after : Db) (text : List ℕ) → IsLawful db → IsReadBack (s.CreateTable quiet name columns) → statement_plan (schema_of db) (s.CreateTable quiet name columns) ≡ Ok p
+    → then_with (table_added (record { name = name; columns = columns }) db) silent ≡ Ok (text, after) → IsLawful after
+create_keeps laws true name columns p db after text l r e c = absurd (cc)
+create_keeps laws false name columns p db after text l r e c =
+    let t : TableSchema = record { name = name; columns = columns } in
+    let done = made_if (is_past_table t (schema_of db)) (table_created t db) after (silent_is (table_added t db) text after c) in
+    subst IsLawful done.1 (create_lawful laws t db l (has_plan t (schema_of db) p e) (reads_itself (schema_of db) name columns p e r) done.0)
+
+insert_keeps : (laws : FormLaws) (name : List ℕ) (names : List (List ℕ)) (rows_of : RowSource) (p : Plan) (db after : Db) (text : List ℕ) → IsLawful db → insert_plan (schema_of db) name names rows_of ≡ Ok p
+    → then_with (inserts name p.rows db) silent ≡ Ok (text, after) → IsLawful after
+insert_keeps laws name names rows_of p db after text l e c =
+    let says = insert_says (schema_of db) name names rows_of p e in
+    let place = place_named name (schema_of db).tables in
+    let done = then_ok (rows_values p.rows) (λ values. rows_added place values db) after (silent_is (inserts name p.rows db) text after c) in
+    rows_lawful laws place done.0 db after l says.takes (rows_fit (columns_at place (schema_of db)) p.rows done.0 says.typed done.1) done.2
+
+query_keeps : (text : Answer (List ℕ)) (db after : Db) (shown : List ℕ) → IsLawful db → then_with {B = List ℕ × Db} text (λ t. Ok (t, db)) ≡ Ok (shown, after) → IsLawful after
+query_keeps (Ok t) db after shown l e = subst IsLawful (second t shown db after e) l
+query_keeps (Err r) db after shown l e = absurd (cc)
+
+carried_lawful : (laws : FormLaws) (with_names : Bool) (statement : Statement) (p : Plan) (db after : Db) (text : List ℕ) → IsLawful db → IsReadBack statement → statement_plan (schema_of db) statement ≡ Ok p
+    → carried with_names statement p db ≡ Ok (text, after) → IsLawful after
+carried_lawful laws with_names (s.Query select) p db after text l r e c = query_keeps (select_text with_names db select p) db after text l c
+carried_lawful laws with_names (s.CreateTable quiet name columns) p db after text l r e c = create_keeps laws quiet name columns p db after text l r e c
+carried_lawful laws with_names (s.Insert name names rows_of) p db after text l r e c = insert_keeps laws name names rows_of p db after text l e c
+carried_lawful laws with_names _ p db after text l r e c = absurd (cc)
+
+pub effect_lawful : (laws : FormLaws) (with_names : Bool) (statement : Statement) (db after : Db) (text : List ℕ) → IsLawful db → IsReadBack statement → statement_effect with_names statement db ≡ Ok (text, after) → IsLawful after
+effect_lawful laws with_names statement db after text l r e =
+    let a = then_ok (statement_plan (schema_of db) statement) (λ p. carried with_names statement p db) (text, after) e in
+    carried_lawful laws with_names statement a.0 db after text l r a.1 a.2

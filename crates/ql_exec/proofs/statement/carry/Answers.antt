@@ -1,0 +1,48 @@
+-- Each part is given what it asks for, and does what the statement does.
+use Rattle.std.proofs.Common.{length}
+use Rattle.ql_exec.proofs.Carried.{query_planned, create_level, create_planned, create_read, insert_level, insert_planned, query_does, create_does, insert_does, others_planless}
+use Rattle.ql_exec.proofs.statement.carry.Goals as goal
+
+pub add_select-requires-clause-plan : goal.add_select-requires-clause-plan
+add_select-requires-clause-plan g c =
+    query_planned (g.R.Rel.schema c.args.rel.now) c.args.statement.now c.in-Query.select c.get.result.now c.args.plan.now c.in-Query.is c.get.ensures c.requires.plan
+
+pub returns-in-Query-clause-done : goal.returns-in-Query-clause-done
+returns-in-Query-clause-done g c =
+    query_does c.args.with_names c.args.statement.now c.in-Query.select c.get.result.now c.args.plan.now _ _ _ _ _ c.in-Query.is c.get.ensures c.add_select.ensures.db c.add_select.ensures.text
+
+pub create_table-requires-clause-level : goal.create_table-requires-clause-level
+create_table-requires-clause-level g c =
+    create_level c.args.statement.now _ c.in-CreateTable.table c.in-CreateTable.columns (length (g.R.Rel.saved c.args.rel.now)) c.in-CreateTable.is c.requires.level
+
+pub create_table-requires-clause-plan : goal.create_table-requires-clause-plan
+create_table-requires-clause-plan g c =
+    create_planned (g.R.Rel.schema c.args.rel.now) c.args.statement.now _ c.in-CreateTable.table c.in-CreateTable.columns c.args.plan.now c.in-CreateTable.is c.requires.plan
+
+pub create_table-requires-clause-read : goal.create_table-requires-clause-read
+create_table-requires-clause-read g c =
+    create_read (g.R.Rel.schema c.args.rel.now) c.args.statement.now _ c.in-CreateTable.table c.in-CreateTable.columns c.args.plan.now c.in-CreateTable.is c.requires.plan c.requires.read
+
+pub returns-in-CreateTable-clause-done : goal.returns-in-CreateTable-clause-done
+returns-in-CreateTable-clause-done g c =
+    create_does c.args.with_names c.args.statement.now _ c.in-CreateTable.table c.in-CreateTable.columns c.args.plan.now _ _ _ _ c.in-CreateTable.is c.create_table.ensures.done
+
+pub insert_rows-requires-clause-level : goal.insert_rows-requires-clause-level
+insert_rows-requires-clause-level g c =
+    insert_level c.args.statement.now c.in-Insert.table _ _ (length (g.R.Rel.saved c.args.rel.now)) c.in-Insert.is c.requires.level
+
+pub insert_rows-requires-clause-table : goal.insert_rows-requires-clause-table
+insert_rows-requires-clause-table g c =
+    (insert_planned (g.R.Rel.schema c.args.rel.now) c.args.statement.now c.in-Insert.table _ _ c.args.plan.now c.in-Insert.is c.requires.plan).there
+
+pub insert_rows-requires-clause-typed : goal.insert_rows-requires-clause-typed
+insert_rows-requires-clause-typed g c =
+    (insert_planned (g.R.Rel.schema c.args.rel.now) c.args.statement.now c.in-Insert.table _ _ c.args.plan.now c.in-Insert.is c.requires.plan).typed
+
+pub returns-in-Insert-clause-done : goal.returns-in-Insert-clause-done
+returns-in-Insert-clause-done g c =
+    insert_does c.args.with_names c.args.statement.now c.in-Insert.table _ _ c.args.plan.now _ _ _ _ c.in-Insert.is c.insert_rows.ensures.done
+
+pub returns-in_default-clause-done : goal.returns-in_default-clause-done
+returns-in_default-clause-done g c =
+    absurd (others_planless (g.R.Rel.schema c.args.rel.now) c.args.statement.now c.args.plan.now c.requires.plan c.in_default.not-Query c.in_default.not-CreateTable c.in_default.not-Insert)

@@ -1,0 +1,6 @@
+pub mod Answers
+pub mod Carries
+pub mod Scans
+pub mod Selects
+pub mod Depths
+pub mod EffectLaws

@@ -1,0 +1,52 @@
+//! Why a statement was not carried out.
+
+ghost use Rattle.std.specs.Prelude.{◌≡◌, []};
+ghost use Rattle.lldb_base.specs.declared.trouble.Trouble.TheVariants as trouble;
+ghost use Rattle.ql_exec.specs.Answers.{fault_of};
+ghost use Rattle.ql_exec.specs.declared.fault.ExecFault.TheVariants as variant;
+
+use lldb_base::Trouble;
+use ql_edge::NoMemory;
+use ql_rel::{IDS_SPENT, KEY_TOO_LONG, ROW_TOO_LONG, RelFault, TABLE_LIMIT_REFUSAL};
+use ql_value::Refusal;
+use std::alloc::Global;
+
+/// Why a statement was not carried out.
+#[derive(Debug, Drop)]
+pub enum ExecFault {
+    /// The statement was refused.
+    Refused(Refusal),
+    /// What lies under the tables refused.
+    Trouble(Trouble),
+}
+
+impl From<NoMemory> for ExecFault {
+    ghost from_gives = { λ _ fault. fault ≡ variant.Trouble trouble.NoMemory };
+
+    fn from(_: NoMemory) -> ExecFault {
+        ExecFault::Trouble(Trouble::NoMemory)
+    }
+}
+
+/// A refusal that shows no name.
+pub(crate) fn refused(alloc: Global, number: u8) -> ExecFault
+    ensures { result ≡ ExecFault.Refused (record { number = number; name = [] }) }
+{
+    ExecFault::Refused(Refusal::new(alloc, number))
+}
+
+/// What a relation's refusal becomes.
+pub(crate) fn refused_by(alloc: Global, fault: RelFault) -> ExecFault
+    ensures { result ≡ fault_of fault }
+{
+    match fault {
+        RelFault::RowTooLong => refused(alloc, ROW_TOO_LONG),
+        RelFault::KeyTooLong(index) => ExecFault::Refused(Refusal {
+            number: KEY_TOO_LONG,
+            name: index.into_bytes(),
+        }),
+        RelFault::IdsSpent => refused(alloc, IDS_SPENT),
+        RelFault::TableLimit => refused(alloc, TABLE_LIMIT_REFUSAL),
+        RelFault::Trouble(trouble) => ExecFault::Trouble(trouble),
+    }
+}

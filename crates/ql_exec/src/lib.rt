@@ -1,0 +1,21 @@
+//! Statements, carried out on any relation.
+#![tactic(auto)]
+
+mod create;
+mod fault;
+mod insert;
+mod laws;
+mod query;
+mod select;
+mod statement;
+mod text;
+mod values;
+
+pub use create::create_table;
+pub use fault::ExecFault;
+pub use insert::insert_rows;
+pub use laws::effect_laws;
+pub use query::add_table;
+pub use select::add_select;
+pub use statement::carry;
+pub use text::heading;

@@ -1,0 +1,7 @@
+mod PlaceLemmas
+mod TableLemmas
+mod CheckLemmas
+mod SchemaLemmas
+mod ColumnLemmas
+mod RelLemmas
+mod FormedLemmas

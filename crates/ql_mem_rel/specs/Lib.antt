@@ -1,0 +1,5 @@
+pub mod Formed
+pub mod Kept
+pub mod PlainDbs
+pub mod Places
+pub mod RelLaws
