@@ -108,18 +108,6 @@ fn coalesce_of(alloc: Global, parts: CheckedList) -> Result<Checked, CheckFault>
     call_by_table(alloc, Function::Coalesce, parts)
 }
 
-/// Whether a function takes so many parts.
-fn takes(function: Function, count: usize) -> bool
-    ensures { result ≡ spec.takes function count }
-{
-    match function {
-        Function::Contains | Function::HasPrefix | Function::HasSuffix => count == 2,
-        Function::Coalesce => 0 < count,
-        Function::Count => count < 2,
-        _ => count == 1,
-    }
-}
-
 /// The call of a function of a row other than id.
 #[inline(never)]
 pub(crate) fn row_call(
@@ -129,7 +117,7 @@ pub(crate) fn row_call(
 ) -> Result<Checked, CheckFault>
     ensures { Gives (spec.row_call function parts) result }
 {
-    if !takes(function, parts.len()) {
+    if !function.takes(parts.len()) {
         return Err(CheckFault::Refused(Refusal::new(alloc, COUNT)));
     }
     match function {
@@ -217,7 +205,7 @@ pub(crate) fn group_call(
     if !allowed {
         return Err(CheckFault::Refused(Refusal::new(alloc, AGGREGATE)));
     }
-    if !takes(function, parts.len()) {
+    if !function.takes(parts.len()) {
         return Err(CheckFault::Refused(Refusal::new(alloc, COUNT)));
     }
     group_value(alloc, function, first(parts))

@@ -6,7 +6,6 @@ ghost use Rattle.ql_rel.specs.Checked as spec;
 ghost use Rattle.ql_check.specs.Gives.{Gives};
 
 use crate::CheckFault;
-use crate::table::same_kind;
 use ql_edge::Boxed;
 use ql_rel::{Checked, Literal};
 use ql_syntax::{Typed, Typing};
@@ -100,7 +99,7 @@ pub(crate) fn literal_in(alloc: Global, kind: Kind, literal: Literal) -> Result<
 fn narrow(alloc: Global, kind: Kind, tree: Typed) -> Result<Typed, CheckFault>
     ensures { Gives (Ok (spec.narrow kind tree)) result }
 {
-    if same_kind(kind, Kind::Int64) {
+    if kind == Kind::Int64 {
         return Ok(tree);
     }
     let part = Boxed::new(alloc, tree)?;

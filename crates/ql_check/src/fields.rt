@@ -119,7 +119,7 @@ fn star_name(
 fn add_star_field(
     alloc: Global,
     several: bool,
-    at: u32,
+    at: usize,
     slot: &Slot,
     before: ResultFields,
 ) -> Result<ResultFields, NoMemory>
@@ -143,13 +143,8 @@ fn star_fields(alloc: Global, several: bool, slots: &[Slot]) -> Result<ResultFie
     ensures { IfOk result (λ list. list ≡ spec.star_fields several 0 slots.now) }
 {
     let mut list = ResultFields::new(alloc);
-    let mut at = 0;
-    'slots: for slot in slots {
+    'slots: for (at, slot) in slots.iter().enumerate() {
         list = add_star_field(alloc, several, at, slot, list)?;
-        at = match at.checked_add(1) {
-            Some(next) => next,
-            None => return Err(NoMemory),
-        };
     }
     Ok(list)
 }
@@ -173,7 +168,7 @@ pub(crate) fn fields_of(
     ensures { Gives (spec.result_fields scope.now fields.now) result }
 {
     if fields.len() == 0 {
-        return star(alloc, scope.seen.as_slice());
+        return star(alloc, scope.row.as_slice());
     }
     written_fields(alloc, scope, fields)
 }

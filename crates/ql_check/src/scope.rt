@@ -1,6 +1,6 @@
 //! What names mean.
 
-ghost use Rattle.std.specs.Prelude.{◌≡◌, List, [], ◌∷◌, ◌++◌, Some, None, IfOk};
+ghost use Rattle.std.specs.Prelude.{◌≡◌, ◌+◌, ◌<◌, ◌^◌, List, [], ◌∷◌, ◌++◌, length, Some, None, IfOk};
 ghost use Rattle.ql_rel.specs.Scopes as spec;
 ghost use Rattle.ql_rel.specs.Types.{at_place};
 ghost use Rattle.ql_check.specs.Gives.{Gives};
@@ -62,7 +62,7 @@ fn add_hit(hit: Hit, found: RowPlace) -> Hit
 }
 
 /// One slot more.
-fn look_at(hit: Hit, set: Option<&[u8]>, column: Option<&[u8]>, at: u32, slot: &Slot) -> Hit
+fn look_at(hit: Hit, set: Option<&[u8]>, column: Option<&[u8]>, at: usize, slot: &Slot) -> Hit
     ensures { let more =
         spec.places_named (bytes_of set.entry) (bytes_of column.entry) at (slot.now ∷ []) in
         (list : List RowPlace) → Hits hit list → Hits result (list ++ more) }
@@ -81,26 +81,28 @@ fn look_at(hit: Hit, set: Option<&[u8]>, column: Option<&[u8]>, at: u32, slot: &
 }
 
 /// The places that a name may mean. The first slot has the number `start`.
-fn search(
-    set: Option<&[u8]>,
-    column: Option<&[u8]>,
-    start: u32,
-    slots: &[Slot],
-) -> Result<Hit, NoMemory>
-    ensures { let list =
-        spec.places_named (bytes_of set.entry) (bytes_of column.entry) start slots.now in
-        IfOk result (λ hit. Hits hit list) }
+fn search(set: Option<&[u8]>, column: Option<&[u8]>, start: usize, slots: &[Slot]) -> Hit
+    requires numbers { start + length slots.now < 2 ^ 64 }
+    ensures { Hits result
+        (spec.places_named (bytes_of set.entry) (bytes_of column.entry) start slots.now) }
 {
     let mut hit = Hit::Nothing;
     let mut at = start;
     'slots: for slot in slots {
         hit = look_at(hit, set, column, at, slot);
-        at = match at.checked_add(1) {
-            Some(next) => next,
-            None => return Err(NoMemory),
-        };
+        at += 1;
     }
-    Ok(hit)
+    hit
+}
+
+/// The places of the source row that names are looked for among.
+fn seen_slots(scope: &Scope) -> &[Slot]
+    ensures { result.now ≡ spec.seen_slots scope.now }
+{
+    if scope.hides {
+        return &[];
+    }
+    scope.row.as_slice()
 }
 
 /// The one place that a name means.
@@ -123,13 +125,14 @@ fn find_column(
     name: &[u8],
 ) -> Result<RowPlace, CheckFault>
     ensures { let fields =
-        spec.places_named None (Some name.now) scope.now.width scope.now.fields in
-        let columns = spec.places_named (bytes_of set.entry) (Some column.now) 0 scope.now.seen in
+        spec.places_named None (Some name.now) (length scope.now.row) scope.now.fields in
+        let columns =
+        spec.places_named (bytes_of set.entry) (Some column.now) 0 (spec.seen_slots scope.now) in
         Gives (spec.the_one name.now (spec.first_some fields columns)) result }
 {
-    match search(None, Some(name), scope.width, scope.fields.as_slice())? {
+    match search(None, Some(name), scope.row.len(), scope.fields.as_slice()) {
         Hit::Nothing => {
-            let hit = search(set, Some(column), 0, scope.seen.as_slice())?;
+            let hit = search(set, Some(column), 0, seen_slots(scope));
             one_of(alloc, name, hit)
         }
         hit => one_of(alloc, name, hit),
@@ -191,7 +194,7 @@ pub(crate) fn column_of(
 pub(crate) fn id_of_all(alloc: Global, scope: &Scope) -> Result<Checked, CheckFault>
     ensures { Gives (at_place (spec.id_place scope.now)) result }
 {
-    let hit = search(None, None, 0, scope.seen.as_slice())?;
+    let hit = search(None, None, 0, seen_slots(scope));
     Ok(as_place(one_of(alloc, b"id", hit)?))
 }
 
@@ -200,6 +203,6 @@ pub(crate) fn id_of_all(alloc: Global, scope: &Scope) -> Result<Checked, CheckFa
 pub(crate) fn id_of_set(alloc: Global, scope: &Scope, set: &[u8]) -> Result<Checked, CheckFault>
     ensures { Gives (at_place (spec.id_place_of scope.now set.now)) result }
 {
-    let hit = search(Some(set), None, 0, scope.seen.as_slice())?;
+    let hit = search(Some(set), None, 0, seen_slots(scope));
     Ok(as_place(one_of(alloc, set, hit)?))
 }

@@ -1,6 +1,6 @@
 //! The plan of a SELECT.
 
-ghost use Rattle.std.specs.Prelude.{◌≡◌, if◌then◌else◌, [], Ok, IfOk};
+ghost use Rattle.std.specs.Prelude.{◌≡◌, Ok, IfOk};
 ghost use Rattle.ql_rel.specs.Plans as spec;
 ghost use Rattle.ql_check.specs.Gives.{Gives};
 ghost use Rattle.ql_check.specs.Outputs.{AreColumns};
@@ -19,27 +19,14 @@ use ql_value::{LATER, Refusal};
 use std::alloc::Global;
 
 /// A row, and no field.
-fn row_scope(alloc: Global, slots: Slots) -> Result<Scope, NoMemory>
-    ensures { IfOk result (λ scope. scope ≡ spec.row_scope slots) }
+fn row_scope(alloc: Global, slots: Slots) -> Scope
+    ensures { result ≡ spec.row_scope slots }
 {
-    match u32::try_from(slots.len()) {
-        Ok(width) => Ok(Scope {
-            seen: slots,
-            fields: Slots::new(alloc),
-            width,
-        }),
-        Err(_) => Err(NoMemory),
+    Scope {
+        row: slots,
+        fields: Slots::new(alloc),
+        hides: false,
     }
-}
-
-/// The places that ORDER BY sees of a row.
-fn seen_of(alloc: Global, hides: bool, slots: Slots) -> Slots
-    ensures { result ≡ (if hides then [] else slots) }
-{
-    if hides {
-        return Slots::new(alloc);
-    }
-    slots
 }
 
 /// What ORDER BY sees.
@@ -52,13 +39,8 @@ fn key_scope(
     ensures { IfOk result (λ keys. keys ≡ spec.key_scope hides scope fields.now) }
 {
     let fields = field_slots(alloc, fields.as_slice())?;
-    let Scope { seen, width, .. } = scope;
-    let seen = seen_of(alloc, hides, seen);
-    Ok(Scope {
-        seen,
-        fields,
-        width,
-    })
+    let Scope { row, .. } = scope;
+    Ok(Scope { row, fields, hides })
 }
 
 /// An expression without aggregate, whose kind is of a group.
@@ -125,7 +107,7 @@ fn source_of(alloc: Global, schema: &Schema, select: &Select) -> Result<Source, 
 {
     let slots = add_sets(alloc, schema, &select.sets)?;
     without_join(alloc, &select.join)?;
-    let row = row_scope(alloc, slots)?;
+    let row = row_scope(alloc, slots);
     let filter = resolve_if(alloc, Group::Truths, &row, &select.filter)?;
     let groups = resolve_each(alloc, &row, &select.groups)?;
     Ok(Source {
@@ -159,7 +141,7 @@ fn output_of(
 fn limits_of(alloc: Global, select: &Select) -> Result<Limits, CheckFault>
     ensures { Gives (spec.limits_of select.now) result }
 {
-    let scope = row_scope(alloc, Slots::new(alloc))?;
+    let scope = row_scope(alloc, Slots::new(alloc));
     let limit = resolve_if(alloc, Group::Integers, &scope, &select.limit)?;
     let offset = resolve_if(alloc, Group::Integers, &scope, &select.offset)?;
     Ok(Limits { limit, offset })

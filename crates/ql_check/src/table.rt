@@ -1,7 +1,6 @@
 //! The table of operators: what they take and give.
 
 ghost use Rattle.std.specs.Prelude.{◌≡◌};
-ghost use Rattle.ql_value.specs.Kinds as kinds;
 ghost use Rattle.ql_syntax.specs.Typing as spec;
 ghost use Rattle.ql_check.specs.Groups.{test_of};
 
@@ -22,31 +21,6 @@ pub(crate) enum Group {
     ByteLists,
     /// The kinds that are converted to this one.
     Into(Kind),
-}
-
-/// The place of a kind among the kinds.
-fn kind_number(kind: Kind) -> u8
-    ensures { result ≡ kinds.kind_number kind }
-{
-    match kind {
-        Kind::Bool => 0,
-        Kind::Int8 => 1,
-        Kind::Int16 => 2,
-        Kind::Int32 => 3,
-        Kind::Int64 => 4,
-        Kind::Uint8 => 5,
-        Kind::Uint16 => 6,
-        Kind::Uint32 => 7,
-        Kind::Uint64 => 8,
-        Kind::Text => 9,
-        Kind::Blob => 10,
-    }
-}
-
-pub(crate) fn same_kind(a: Kind, b: Kind) -> bool
-    ensures { result ≡ kinds.same_kind a b }
-{
-    kind_number(a) == kind_number(b)
 }
 
 /// Whether a value of the second kind is converted to the first.
@@ -109,7 +83,7 @@ pub(crate) fn meet(left: Typing, right: Typing) -> Typing
         (Typing::OnlyNull, other) => other,
         (other, Typing::OnlyNull) => other,
         (Typing::OfKind(a), Typing::OfKind(b)) => {
-            if same_kind(a, b) {
+            if a == b {
                 Typing::OfKind(a)
             } else {
                 Typing::Ill

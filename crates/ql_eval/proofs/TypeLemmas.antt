@@ -1,38 +1,20 @@
 -- What a type that stands says of its parts, and of values of them.
 use Rattle.std.proofs.Common.{◌≡◌, ℕ, Bool, true, false, ◌==◌, if◌then◌else◌, refl, sym, ap, subst, ◌∙◌}
-use Rattle.std.proofs.lemmas.Bool.{eqb-true}
+use denote.Enum.Bare.{same_true}
 use Rattle.ql_value.specs.declared.value.Kind.{Kind}
 use Rattle.ql_value.specs.declared.value.Kind.TheVariants as k
 use Rattle.ql_value.specs.declared.value.Value.{Value}
 use Rattle.ql_value.specs.declared.value.Value.TheVariants as v
 use Rattle.ql_value.specs.Number.{HasKind}
-use Rattle.ql_value.specs.Kinds.{kind_number, same_kind}
+use Rattle.ql_value.specs.Kinds.{same_kind}
+use Rattle.ql_value.specs.contracts.value.Kind as kind
 use Rattle.ql_syntax.specs.declared.typing.Typing.{Typing}
 use Rattle.ql_syntax.specs.declared.typing.Typing.TheVariants.{OnlyNull, OfKind, Ill}
 use Rattle.ql_syntax.specs.Typing.{IsTyped, HasType, among, given_type, meet}
 
--- the kind with a number
-kind_of : ℕ → Kind
-kind_of n =
-    if n == 0 then k.Bool else (if n == 1 then k.Int8 else (if n == 2 then k.Int16 else (if n == 3 then k.Int32 else (if n == 4 then k.Int64
-    else (if n == 5 then k.Uint8 else (if n == 6 then k.Uint16 else (if n == 7 then k.Uint32 else (if n == 8 then k.Uint64 else (if n == 9 then k.Text else k.Blob)))))))))
-
-kind_back : (a : Kind) → kind_of (kind_number a) ≡ a
-unfolding kind_of
-kind_back k.Bool = refl
-kind_back k.Int8 = refl
-kind_back k.Int16 = refl
-kind_back k.Int32 = refl
-kind_back k.Int64 = refl
-kind_back k.Uint8 = refl
-kind_back k.Uint16 = refl
-kind_back k.Uint32 = refl
-kind_back k.Uint64 = refl
-kind_back k.Text = refl
-kind_back k.Blob = refl
-
+-- equal kinds are one
 pub one_kind : (a b : Kind) → same_kind a b ≡ true → a ≡ b
-one_kind a b h = sym (kind_back a) ∙ ap kind_of (eqb-true (kind_number a) (kind_number b) h) ∙ kind_back b
+one_kind a b h = same_true kind.the_type (search rules) a b h
 
 -- the kind of the type passes the test
 abbrev pub Passes : (Kind → Bool) → Typing → Type 0

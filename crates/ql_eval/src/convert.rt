@@ -9,12 +9,11 @@ use ql_value::{Kind, Value, convert, fit};
 use std::alloc::Global;
 
 /// The value at a place of the row.
-pub(crate) fn value_at(row: &[Value], at: u32) -> &Value
+pub(crate) fn value_at(row: &[Value], at: usize) -> &Value
     requires { spec.IsMeant (spec.at_place row.now at) }
     ensures { spec.at_place row.now at ≡ spec.gives result.now }
 {
-    let index = at as usize;
-    &row[index]
+    &row[at]
 }
 
 /// A value as one of a kind. Strings and blobs are moved, not copied.

@@ -24,27 +24,27 @@ pub fn function_of(text: &[u8]) -> Option<Function>
     ensures other { IfSome result (λ f. is_count (named text.now)
         || is_function (named text.now) ≡ true) }
 {
-    if is_spelled(text, b"id") {
+    if is_spelled(text, Function::Id.name()) {
         Some(Function::Id)
-    } else if is_spelled(text, b"len") {
+    } else if is_spelled(text, Function::Len.name()) {
         Some(Function::Len)
-    } else if is_spelled(text, b"contains") {
+    } else if is_spelled(text, Function::Contains.name()) {
         Some(Function::Contains)
-    } else if is_spelled(text, b"hasPrefix") {
+    } else if is_spelled(text, Function::HasPrefix.name()) {
         Some(Function::HasPrefix)
-    } else if is_spelled(text, b"hasSuffix") {
+    } else if is_spelled(text, Function::HasSuffix.name()) {
         Some(Function::HasSuffix)
-    } else if is_spelled(text, b"coalesce") {
+    } else if is_spelled(text, Function::Coalesce.name()) {
         Some(Function::Coalesce)
-    } else if is_spelled(text, b"count") {
+    } else if is_spelled(text, Function::Count.name()) {
         Some(Function::Count)
-    } else if is_spelled(text, b"sum") {
+    } else if is_spelled(text, Function::Sum.name()) {
         Some(Function::Sum)
-    } else if is_spelled(text, b"avg") {
+    } else if is_spelled(text, Function::Avg.name()) {
         Some(Function::Avg)
-    } else if is_spelled(text, b"min") {
+    } else if is_spelled(text, Function::Min.name()) {
         Some(Function::Min)
-    } else if is_spelled(text, b"max") {
+    } else if is_spelled(text, Function::Max.name()) {
         Some(Function::Max)
     } else {
         None

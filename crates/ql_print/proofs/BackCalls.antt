@@ -6,7 +6,7 @@ use Rattle.std.proofs.lemmas.Slice.Eq.{bytes_eq-Decides}
 use Rattle.ql_syntax.specs.declared.syntax.Function.{Function}
 use Rattle.ql_syntax.specs.declared.syntax.Function.TheVariants as f
 use Rattle.ql_syntax.specs.Lexemes.{Lexeme, is_name, is_named, is_id, is_count, is_function}
-use Rattle.ql_syntax.specs.Printing.{function_bytes}
+use Rattle.ql_syntax.specs.Functions.{function_bytes}
 use Rattle.ql_syntax.specs.Trees.{function_named}
 use Rattle.ql_print.proofs.BackTokens.{name_token}
 

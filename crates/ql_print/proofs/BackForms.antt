@@ -19,7 +19,8 @@ use Rattle.ql_syntax.specs.declared.syntax.SetSource.TheVariants as source
 use Rattle.ql_syntax.specs.declared.syntax.Side.{Side}
 use Rattle.ql_syntax.specs.Ink as ink
 use Rattle.ql_syntax.specs.Lexemes.{Lexeme}
-use Rattle.ql_syntax.specs.Printing.{Inks, ink_of_un, ink_of_ops, word_of_kind, word_of_side, function_bytes, ink_of_not, ink_of_alias, ink_of_expr, ink_of_link, ink_of_select, ink_of_source, ink_of_set}
+use Rattle.ql_syntax.specs.Functions.{function_bytes}
+use Rattle.ql_syntax.specs.Printing.{Inks, ink_of_un, ink_of_ops, word_of_kind, word_of_side, ink_of_not, ink_of_alias, ink_of_expr, ink_of_link, ink_of_select, ink_of_source, ink_of_set}
 use Rattle.ql_syntax.specs.Trees.{chain, signed}
 use Rattle.ql_syntax.proofs.PrintingEquations.{of_chain, of_unary, of_number, of_text, of_truth, of_null, of_column, of_paren, of_call, of_convert, of_in, of_in_select, of_between, of_is_null, of_table, of_query, of_link, of_field, of_set, of_join}
 use Rattle.ql_print.proofs.BackTokens.{mark_token, word_token, small_token, name_token, number_token, text_token, bin_token, un_token, ink_of_bin_is, ink_of_un_is, before, before_both, before_listed, before_bracketed, expr_before, link_before, select_before, field_before, set_before, join_before, source_before, listed_before, links_before, ops_before, column_before, not_before, truth_token, alias_before}

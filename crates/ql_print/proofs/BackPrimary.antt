@@ -15,7 +15,8 @@ use Rattle.ql_syntax.specs.declared.syntax.Expr.TheVariants as e
 use Rattle.ql_syntax.specs.declared.syntax.Function.{Function}
 use Rattle.ql_syntax.specs.declared.syntax.Function.TheVariants as f
 use Rattle.ql_syntax.specs.Lexemes.{Lexeme, is_mark, is_text, is_open, is_kind, is_count, is_function, sees}
-use Rattle.ql_syntax.specs.Printing.{word_of_kind, function_bytes}
+use Rattle.ql_syntax.specs.Functions.{function_bytes}
+use Rattle.ql_syntax.specs.Printing.{word_of_kind}
 use Rattle.ql_syntax.specs.Rules.{Rule, token, before, ◌then◌, ◌or◌, maybe, list, bracketed, mark, word, the, enters, expr, ref, primary}
 use Rattle.ql_syntax.specs.Readings.{Parse, Reads, leaf, pair, left, right, absent, present, group, node}
 use Rattle.ql_syntax.specs.Readings as r

@@ -10,7 +10,8 @@ use Rattle.ql_syntax.specs.declared.syntax.Expr.{Expr}
 use Rattle.ql_syntax.specs.declared.syntax.Link.{Link, roll-Link}
 use Rattle.ql_syntax.specs.Ink.{space, name, listed, bracketed}
 use Rattle.ql_syntax.specs.Lexemes.{Lexeme, is_close, is_mark, is_count, is_open, is_either, is_both, is_comparison, is_sum, is_product, is_prefix}
-use Rattle.ql_syntax.specs.Printing.{Inks, ink_of_un, ink_of_not, ink_of_expr, ink_of_link, ink_of_select, function_bytes}
+use Rattle.ql_syntax.specs.Functions.{function_bytes}
+use Rattle.ql_syntax.specs.Printing.{Inks, ink_of_un, ink_of_not, ink_of_expr, ink_of_link, ink_of_select}
 use Rattle.ql_syntax.specs.Rules.{◌then◌, the, token, many, maybe, further, list, word, mark, expr, term, factor, sum, product, unary, primary, predicate, ref, select}
 use Rattle.ql_syntax.specs.Readings.{Parse, Reads}
 use Rattle.ql_syntax.specs.Readings as r

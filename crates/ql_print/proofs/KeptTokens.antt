@@ -20,7 +20,8 @@ use Rattle.ql_lex.specs.declared.token.TokenKind.TheVariants as kind
 use Rattle.ql_value.specs.Print.{quoted}
 use Rattle.ql_syntax.specs.Ink.{space, written, tokens_of, mark, keyword, small, name, number, string, comma, bracketed}
 use Rattle.ql_syntax.specs.Lexemes.{Lexeme, kind_is_mark, kind_is_word, kind_is_name, kind_is_number, kind_is_text, is_mark, is_word, is_name, is_number, is_text, is_named, is_open, is_close, is_comma, is_either, is_both, is_comparison, is_sum, is_product, is_prefix, is_kind, is_id, is_count, is_function}
-use Rattle.ql_syntax.specs.Printing.{Inks, ink_of_bin, ink_of_un, word_of_kind, function_bytes}
+use Rattle.ql_syntax.specs.Functions.{function_bytes}
+use Rattle.ql_syntax.specs.Printing.{Inks, ink_of_bin, ink_of_un, word_of_kind}
 use Rattle.ql_syntax.specs.SameTokens.{IsAlike, sense_of, SameTokens, same, ends_list, ends_statement, kind_ends_list, kind_ends_statement}
 use Rattle.ql_syntax.specs.SameTokens as is
 use Rattle.ql_syntax.specs.Trees.{bin_op, un_op, kind_named, function_named}

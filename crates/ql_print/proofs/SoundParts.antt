@@ -16,7 +16,8 @@ use Rattle.ql_syntax.specs.declared.syntax.Function.{Function}
 use Rattle.ql_syntax.specs.declared.syntax.Link.{Link, roll-Link}
 use Rattle.ql_syntax.specs.declared.syntax.Select.{Select}
 use Rattle.ql_syntax.specs.Ink.{space, text_of, mark, keyword, name, listed, bracketed}
-use Rattle.ql_syntax.specs.Printing.{Inks, ink_of_un, ink_of_not, ink_of_expr, ink_of_link, ink_of_select, function_bytes}
+use Rattle.ql_syntax.specs.Functions.{function_bytes}
+use Rattle.ql_syntax.specs.Printing.{Inks, ink_of_un, ink_of_not, ink_of_expr, ink_of_link, ink_of_select}
 use Rattle.ql_syntax.specs.Trees.{chain, signed}
 use Rattle.ql_syntax.proofs.PrintingEquations.{of_chain, of_unary, of_number, of_text, of_truth, of_null, of_column, of_paren, of_call, of_convert, of_in, of_in_select, of_between, of_is_null, of_link}
 use Rattle.ql_print.proofs.LexedInk.{blank, token}

@@ -23,7 +23,8 @@ use Rattle.ql_value.specs.declared.value.Kind.TheVariants as k
 use Rattle.ql_syntax.specs.declared.syntax.Function.{Function}
 use Rattle.ql_syntax.specs.declared.syntax.Function.TheVariants as f
 use Rattle.ql_syntax.specs.Ink.{space, text_of, small}
-use Rattle.ql_syntax.specs.Printing.{Inks, ink_of_bin, ink_of_un, word_of_kind, function_bytes}
+use Rattle.ql_syntax.specs.Functions.{function_bytes}
+use Rattle.ql_syntax.specs.Printing.{Inks, ink_of_bin, ink_of_un, word_of_kind}
 use Rattle.ql_print.proofs.LexedInk.{Lexed, blank, token}
 use Rattle.ql_print.proofs.CutLemmas.{IsQuiet, ends, differs, mark_cut, plus_cut, minus_cut, bang_cut, caret_cut}
 use Rattle.ql_print.proofs.PrintedNumbers.{are_decimal, both_true, decimal_digits}

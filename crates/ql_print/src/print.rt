@@ -10,7 +10,7 @@ ghost use Rattle.ql_syntax.specs.StoredParts.{ExprsReadBack};
 
 use crate::spelling::{
     add_alias, add_column_ref, add_ops, between_bytes, comma_before, direction_bytes,
-    function_name, in_bytes, join_bytes, kind_bytes, null_bytes, operator_bytes, put, select_bytes,
+    in_bytes, join_bytes, kind_bytes, null_bytes, operator_bytes, put, select_bytes,
     truth_bytes,
 };
 use ql_edge::{Boxed, Bytes, NoMemory};
@@ -47,7 +47,7 @@ pub(crate) fn add_expr(expr: &Expr, out: &mut Bytes) -> Result<(), NoMemory>
             parts,
             ..
         } => {
-            put(function_name(*function), out)?;
+            put(function.name(), out)?;
             add_list(parts, out)?;
             Ok(())
         }

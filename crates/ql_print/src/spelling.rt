@@ -3,10 +3,10 @@ ghost use Rattle.std.specs.Prelude.{◌≡◌, ◌++◌, ◌∷◌, [], OnOk, Li
 ghost use Rattle.ql_lex.specs.declared.words.Word.TheVariants as w;
 ghost use Rattle.ql_syntax.specs.Ink as spec;
 ghost use Rattle.ql_syntax.specs.Ink.{bytes_of, gap_before, keyword, small, space, text_of, Grows};
-ghost use Rattle.ql_syntax.specs.Printing.{function_bytes, ink_of_alias, ink_of_bin, ink_of_column, ink_of_direction, ink_of_distinct, ink_of_not, ink_of_ops, ink_of_un, word_of_kind, word_of_side, ink_of_truth};
+ghost use Rattle.ql_syntax.specs.Printing.{ink_of_alias, ink_of_bin, ink_of_column, ink_of_direction, ink_of_distinct, ink_of_not, ink_of_ops, ink_of_un, word_of_kind, word_of_side, ink_of_truth};
 
 use ql_edge::{Boxed, Bytes, Name, NoMemory};
-use ql_syntax::{Function, Side};
+use ql_syntax::Side;
 use ql_value::{BinOp, Kind, UnOp};
 
 /// Adds bytes.
@@ -73,25 +73,6 @@ pub(crate) fn kind_bytes(kind: Kind) -> &'static [u8]
         Kind::Uint64 => b"uint64",
         Kind::Text => b"string",
         Kind::Blob => b"blob",
-    }
-}
-
-/// The name of a function.
-pub(crate) fn function_name(function: Function) -> &'static [u8]
-    ensures { result.now ≡ function_bytes function }
-{
-    match function {
-        Function::Id => b"id",
-        Function::Len => b"len",
-        Function::Contains => b"contains",
-        Function::HasPrefix => b"hasPrefix",
-        Function::HasSuffix => b"hasSuffix",
-        Function::Coalesce => b"coalesce",
-        Function::Count => b"count",
-        Function::Sum => b"sum",
-        Function::Avg => b"avg",
-        Function::Min => b"min",
-        Function::Max => b"max",
     }
 }
 

@@ -1,5 +1,5 @@
 -- A name that means a place has the type of the place.
-use Rattle.std.proofs.Common.{◌≡◌, ℕ, suc, Bool, true, false, ◌&&◌, if◌then◌else◌, List, [], ◌∷◌, Option, None, Some, Ok, subst, ◌∙◌}
+use Rattle.std.proofs.Common.{◌≡◌, ℕ, suc, Bool, true, false, ◌&&◌, if◌then◌else◌, List, [], ◌∷◌, length, Option, None, Some, Ok, subst, ◌∙◌}
 use Rattle.ql_syntax.specs.declared.typed.Typed.TheVariants as t
 use Rattle.ql_syntax.specs.declared.typing.Typing.{Typing}
 use Rattle.ql_syntax.specs.Typing.{IsTyped, place_type}
@@ -9,7 +9,7 @@ use Rattle.ql_rel.specs.declared.scope.Scope.{Scope}
 use Rattle.ql_rel.specs.declared.scope.RowPlace.{RowPlace}
 use Rattle.ql_rel.specs.Answers.{Answer}
 use Rattle.ql_rel.specs.Checked.{of_type}
-use Rattle.ql_rel.specs.Scopes.{places_named, the_one, first_some, written, is_of_set, is_of_column, column_place, id_place, id_place_of}
+use Rattle.ql_rel.specs.Scopes.{places_named, the_one, first_some, seen_slots, written, is_of_set, is_of_column, column_place, id_place, id_place_of}
 use Rattle.ql_rel.specs.Types.{at_place}
 use Rattle.ql_syntax.proofs.TypedBy.{by_place}
 use Rattle.ql_rel.proofs.Fits.{Fits, then_ok, same_ok, known_fits}
@@ -21,8 +21,8 @@ Stand row at (s ∷ slots) = (place_type row at ≡ s.typing) × IsTyped s.typin
 
 -- the slots of a scope stand in the row
 pub record Stands (row : List Typing) (scope : Scope) : Type 0 where
-  pub seen : Stand row 0 scope.seen
-  pub fields : Stand row scope.width scope.fields
+  pub seen : Stand row 0 (seen_slots scope)
+  pub fields : Stand row (length scope.row) scope.fields
 
 -- a place of the row has its type
 abbrev IsPlace : List Typing → RowPlace → Type 0
@@ -59,13 +59,13 @@ module _ (may : Bool) (row : List Typing) (scope : Scope) (stands : Stands row s
 
   pub column_fits : (set : Option (List ℕ)) (column : List ℕ) (c : Checked) → at_place (column_place scope set column) ≡ Ok c → Fits may row c
   column_fits set column c a =
-      let fields = places_named None (Some (written set column)) scope.width scope.fields in
-      let seen = places_named set (Some column) 0 scope.seen in
+      let fields = places_named None (Some (written set column)) (length scope.row) scope.fields in
+      let seen = places_named set (Some column) 0 (seen_slots scope) in
       place_fits (column_place scope set column) c
-      (λ f e. the_place row (written set column) (first_some fields seen) f (first_places row fields seen (named_places row None (Some (written set column)) scope.width scope.fields stands.fields) (named_places row set (Some column) 0 scope.seen stands.seen)) e) a
+      (λ f e. the_place row (written set column) (first_some fields seen) f (first_places row fields seen (named_places row None (Some (written set column)) (length scope.row) scope.fields stands.fields) (named_places row set (Some column) 0 (seen_slots scope) stands.seen)) e) a
 
   pub id_fits : (c : Checked) → at_place (id_place scope) ≡ Ok c → Fits may row c
-  id_fits c a = place_fits (id_place scope) c (λ f e. the_place row (105 ∷ 100 ∷ []) (places_named None None 0 scope.seen) f (named_places row None None 0 scope.seen stands.seen) e) a
+  id_fits c a = place_fits (id_place scope) c (λ f e. the_place row (105 ∷ 100 ∷ []) (places_named None None 0 (seen_slots scope)) f (named_places row None None 0 (seen_slots scope) stands.seen) e) a
 
   pub id_of_fits : (set : List ℕ) (c : Checked) → at_place (id_place_of scope set) ≡ Ok c → Fits may row c
-  id_of_fits set c a = place_fits (id_place_of scope set) c (λ f e. the_place row set (places_named (Some set) None 0 scope.seen) f (named_places row (Some set) None 0 scope.seen stands.seen) e) a
+  id_of_fits set c a = place_fits (id_place_of scope set) c (λ f e. the_place row set (places_named (Some set) None 0 (seen_slots scope)) f (named_places row (Some set) None 0 (seen_slots scope) stands.seen) e) a

@@ -34,20 +34,20 @@ column_of set name kind = record { set = Some set; column = Some name; typing = 
 
 -- no record set; `t (a int8, s string)`; and `t` beside `u (a int64)`
 abbrev nothing : Scope
-nothing = record { seen = []; fields = []; width = 0 }
+nothing = record { row = []; fields = []; hides = false }
 
 abbrev table : List Slot
 table = id_of (codes "t") ∷ column_of (codes "t") (codes "a") k.Int8 ∷ column_of (codes "t") (codes "s") k.Text ∷ []
 
 abbrev one : Scope
-one = record { seen = table; fields = []; width = 3 }
+one = record { row = table; fields = []; hides = false }
 
 abbrev two : Scope
-two = record { seen = table ++ (id_of (codes "u") ∷ column_of (codes "u") (codes "a") k.Int64 ∷ []); fields = []; width = 5 }
+two = record { row = table ++ (id_of (codes "u") ∷ column_of (codes "u") (codes "a") k.Int64 ∷ []); fields = []; hides = false }
 
 -- one field that is named `a`, behind a row that is hidden
 abbrev behind : Scope
-behind = record { seen = []; fields = record { set = None; column = Some (codes "a"); typing = OfKind k.Text } ∷ []; width = 3 }
+behind = record { row = table; fields = record { set = None; column = Some (codes "a"); typing = OfKind k.Text } ∷ []; hides = true }
 
 module _ (scope : Scope) where
   abbrev number : ℕ → Judged

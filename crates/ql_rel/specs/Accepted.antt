@@ -32,11 +32,11 @@ is_reserved name = bytes_eq (take 2 name) (codes "__")
 -- what a rule sees: the columns of its table, and no id
 abbrev pub rule_scope : List ℕ → List ColumnDef → Scope
 rule_scope table columns =
-    record { seen = map (λ (c : ColumnDef). record { set = Some table; column = Some c.name; typing = OfKind c.kind }) columns; fields = []; width = length columns }
+    record { row = map (λ (c : ColumnDef). record { set = Some table; column = Some c.name; typing = OfKind c.kind }) columns; fields = []; hides = false }
 
 -- what a default sees: nothing
 abbrev pub no_scope : Scope
-no_scope = record { seen = []; fields = []; width = 0 }
+no_scope = record { row = []; fields = []; hides = false }
 
 -- a rule that is a truth
 abbrev pub rule_of : Scope → Expr → Answer Typing

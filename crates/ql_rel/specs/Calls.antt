@@ -9,6 +9,7 @@ use Rattle.ql_syntax.specs.declared.typed.Typed.{Typed}
 use Rattle.ql_syntax.specs.declared.typed.Typed.TheVariants as t
 use Rattle.ql_value.specs.Kinds.{is_integer, is_truth}
 use Rattle.ql_syntax.specs.declared.typing.Typing.TheVariants.{OfKind}
+use Rattle.ql_syntax.specs.Functions.{takes}
 use Rattle.ql_syntax.specs.Typing.{among, given_type, converts, call_type}
 use Rattle.ql_rel.specs.declared.checked.Literal.{Literal}
 use Rattle.ql_rel.specs.declared.checked.Checked.{Checked}
@@ -36,16 +37,6 @@ call_by_table function parts = then_with (require_type (call_type function (type
 -- coalesce: all parts have one kind
 abbrev pub coalesce_of : List Checked → Answer Checked
 coalesce_of parts = then_with (meet_each (first_kind parts) parts) (λ met. call_by_table f.Coalesce met)
-
--- how many parts a function takes
-abbrev pub takes : Function → ℕ → Bool
-takes f.Len n = n == 1
-takes f.Contains n = n == 2
-takes f.HasPrefix n = n == 2
-takes f.HasSuffix n = n == 2
-takes f.Coalesce n = nat_lt 0 n
-takes f.Count n = nat_lt n 2
-takes _ n = n == 1
 
 -- a call with the right number of parts
 abbrev pub row_value : Function → List Checked → Answer Checked

@@ -93,7 +93,7 @@ without_join (Some join) = refused LATER
 
 -- a row, and no field
 abbrev pub row_scope : List Slot → Scope
-row_scope slots = record { seen = slots; fields = []; width = length slots }
+row_scope slots = record { row = slots; fields = []; hides = false }
 
 -- an expression without aggregate, whose kind passes a test
 abbrev pub resolve_among : (Kind → Bool) → Scope → Expr → Answer Typed
@@ -160,7 +160,7 @@ written_fields scope fields = all_of (map (λ x. result_field scope (out-Field x
 
 -- what a SELECT shows; no fields stand for `*`
 abbrev pub result_fields : Scope → List Field → Answer (List ResultField)
-result_fields scope [] = star scope.seen
+result_fields scope [] = star scope.row
 result_fields scope (field ∷ fields) = written_fields scope (field ∷ fields)
 
 -- an aggregate stands in a field
@@ -180,7 +180,7 @@ field_slots fields = map field_slot fields
 
 -- what ORDER BY sees: the fields, and the row where neither DISTINCT nor grouping hides it
 abbrev pub key_scope : Bool → Scope → List ResultField → Scope
-key_scope hides row fields = record { seen = (if hides then [] else row.seen); fields = field_slots fields; width = row.width }
+key_scope hides scope fields = record { row = scope.row; fields = field_slots fields; hides = hides }
 
 -- the list has a member
 abbrev pub is_some_list : {A : Type 0} → List A → Bool

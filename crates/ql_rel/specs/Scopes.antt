@@ -1,5 +1,5 @@
 -- What names mean.
-use Rattle.std.specs.Prelude.{ℕ, suc, Bool, true, false, ◌&&◌, if◌then◌else◌, List, [], ◌∷◌, ◌++◌, Option, Some, None, Ok}
+use Rattle.std.specs.Prelude.{ℕ, suc, Bool, true, false, ◌&&◌, if◌then◌else◌, List, [], ◌∷◌, ◌++◌, length, Option, Some, None, Ok}
 use Rattle.std.specs.Str.{bytes_eq}
 use Rattle.ql_value.specs.declared.refusal.TheConstants.{NO_COLUMN, AMBIGUOUS}
 use Rattle.ql_rel.specs.declared.scope.Slot.{Slot}
@@ -50,16 +50,20 @@ abbrev pub first_some : List RowPlace → List RowPlace → List RowPlace
 first_some [] more = more
 first_some (f ∷ fs) more = f ∷ fs
 
+-- the places of the source row that names are looked for among
+abbrev pub seen_slots : Scope → List Slot
+seen_slots scope = if scope.hides then [] else scope.row
+
 -- what `c` or `T.c` means: a field whose name is so written, else a column of the row
 abbrev pub column_place : Scope → Option (List ℕ) → List ℕ → Answer RowPlace
 column_place scope set column =
     the_one (written set column)
-    (first_some (places_named None (Some (written set column)) scope.width scope.fields) (places_named set (Some column) 0 scope.seen))
+    (first_some (places_named None (Some (written set column)) (length scope.row) scope.fields) (places_named set (Some column) 0 (seen_slots scope)))
 
 -- what `id()` means: the id of the only record set
 abbrev pub id_place : Scope → Answer RowPlace
-id_place scope = the_one (105 ∷ 100 ∷ []) (places_named None None 0 scope.seen)
+id_place scope = the_one (105 ∷ 100 ∷ []) (places_named None None 0 (seen_slots scope))
 
 -- what `id(T)` means: the id of the record set with that name
 abbrev pub id_place_of : Scope → List ℕ → Answer RowPlace
-id_place_of scope set = the_one set (places_named (Some set) None 0 scope.seen)
+id_place_of scope set = the_one set (places_named (Some set) None 0 (seen_slots scope))

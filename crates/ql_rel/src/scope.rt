@@ -18,16 +18,16 @@ pub type Slots = Items<Slot>;
 #[derive(Drop)]
 pub struct Scope {
     /// The places of the source row.
-    pub seen: Slots,
-    /// The fields of a SELECT, which names are looked for among first.
+    pub row: Slots,
+    /// The fields of a SELECT, whose places are behind the row. Names are looked for among them first.
     pub fields: Slots,
-    /// The number of places before the fields.
-    pub width: u32,
+    /// Whether the fields hide the places of the source row from names.
+    pub hides: bool,
 }
 
 /// A place that a name may mean, by its number.
 #[derive(Clone, Copy, Debug)]
 pub struct RowPlace {
-    pub at: u32,
+    pub at: usize,
     pub typing: Typing,
 }

@@ -19,7 +19,8 @@ use Rattle.ql_syntax.specs.declared.syntax.SetSource.{SetSource}
 use Rattle.ql_syntax.specs.declared.syntax.SetSource.TheVariants as source
 use Rattle.ql_syntax.specs.declared.syntax.Side.{Side}
 use Rattle.ql_syntax.specs.Ink.{space, keyword, small, name, number, string, listed, bracketed}
-use Rattle.ql_syntax.specs.Printing.{Inks, ink_of_bin, ink_of_ops, word_of_kind, function_bytes, ink_of_truth, ink_of_not, ink_of_column, ink_of_alias, behind, ink_of_fields, ink_of_sets, ink_of_join, ink_of_groups, ink_of_keys, ink_of_distinct, word_of_side, expr_step, source_step, field_step, set_step, join_step, link_step, select_step, ink_of_expr, ink_of_link, ink_of_select, ink_of_field, ink_of_source, ink_of_set, ink_of_one_join}
+use Rattle.ql_syntax.specs.Functions.{function_bytes}
+use Rattle.ql_syntax.specs.Printing.{Inks, ink_of_bin, ink_of_ops, word_of_kind, ink_of_truth, ink_of_not, ink_of_column, ink_of_alias, behind, ink_of_fields, ink_of_sets, ink_of_join, ink_of_groups, ink_of_keys, ink_of_distinct, word_of_side, expr_step, source_step, field_step, set_step, join_step, link_step, select_step, ink_of_expr, ink_of_link, ink_of_select, ink_of_field, ink_of_source, ink_of_set, ink_of_one_join}
 
 -- parts between operators
 pub of_chain : (first : Expr) (rest : List Link) → ink_of_expr (e.Chain first rest) ≡ ink_of_expr first ++ flat_map (λ (link : Inks). link) (map ink_of_link rest)

@@ -1,5 +1,5 @@
 -- Tokens with their spelling, and what a place of the grammar asks of one token.
-use Rattle.std.specs.Prelude.{ℕ, Bool, true, false, ◌&&◌, ◌||◌, List, [], ◌∷◌, codes, map, Option, Some, None}
+use Rattle.std.specs.Prelude.{ℕ, Bool, true, false, ◌&&◌, ◌||◌, List, [], ◌∷◌, map, Option, Some, None}
 use Rattle.std.specs.Str.{bytes_eq}
 use denote.Enum.Bare.{sameb}
 use Rattle.ql_lex.specs.contracts.marks.Mark as mark
@@ -12,6 +12,9 @@ use Rattle.ql_lex.specs.declared.token.Token.{Token}
 use Rattle.ql_lex.specs.declared.token.TokenKind.{TokenKind}
 use Rattle.ql_lex.specs.declared.token.TokenKind.TheVariants as kind
 use Rattle.ql_lex.specs.Tokens.{spelling_of}
+use Rattle.ql_syntax.specs.Functions.{function_bytes}
+use Rattle.ql_syntax.specs.declared.syntax.Function.{Function}
+use Rattle.ql_syntax.specs.declared.syntax.Function.TheVariants as f
 
 -- a token: what it is, and the bytes that it stands on
 pub record Lexeme : Type 0 where
@@ -119,19 +122,22 @@ is_kind t = is_word w.Bool t || (is_word w.String t || (is_word w.Blob t || (is_
     || (is_word w.Uint t || (is_word w.Int8 t || (is_word w.Int16 t || (is_word w.Int32 t || (is_word w.Int64 t
     || (is_word w.Uint8 t || (is_word w.Uint16 t || (is_word w.Uint32 t || is_word w.Uint64 t)))))))))))))
 
+-- the name of this function
+abbrev pub is_called : Function → Lexeme → Bool
+is_called function t = is_named (function_bytes function) t
+
 -- the name `id`
 abbrev pub is_id : Lexeme → Bool
-is_id t = is_named (codes "id") t
+is_id t = is_called f.Id t
 
 -- the name `count`, the function that may be called with `*`
 abbrev pub is_count : Lexeme → Bool
-is_count t = is_named (codes "count") t
+is_count t = is_called f.Count t
 
 -- the name of another function: id len contains hasPrefix hasSuffix coalesce sum avg min max
 abbrev pub is_function : Lexeme → Bool
-is_function t = is_id t || (is_named (codes "len") t || (is_named (codes "contains") t || (is_named (codes "hasPrefix") t
-    || (is_named (codes "hasSuffix") t || (is_named (codes "coalesce") t || (is_named (codes "sum") t || (is_named (codes "avg") t
-    || (is_named (codes "min") t || is_named (codes "max") t))))))))
+is_function t = is_id t || (is_called f.Len t || (is_called f.Contains t || (is_called f.HasPrefix t || (is_called f.HasSuffix t
+    || (is_called f.Coalesce t || (is_called f.Sum t || (is_called f.Avg t || (is_called f.Min t || is_called f.Max t))))))))
 
 -- the next token passes a test
 abbrev pub sees : (Lexeme → Bool) → List Lexeme → Bool

@@ -13,5 +13,6 @@ pub mod Typing
 pub mod StoredParts
 pub mod SameTokens
 pub mod PartFolds
+pub mod Functions
 pub mod Aggregates
 pub mod GroupTyping

@@ -1,5 +1,5 @@
 -- What an expression and a SELECT print.
-use Rattle.std.specs.Prelude.{ℕ, Bool, true, false, List, [], ◌∷◌, ◌++◌, map, flat_map, codes, Option, Some, None}
+use Rattle.std.specs.Prelude.{ℕ, Bool, true, false, List, [], ◌∷◌, ◌++◌, map, flat_map, Option, Some, None}
 use Rattle.ql_lex.specs.declared.marks.Mark.TheVariants as m
 use Rattle.ql_lex.specs.declared.words.Word.{Word}
 use Rattle.ql_lex.specs.declared.words.Word.TheVariants as w
@@ -15,13 +15,13 @@ use Rattle.ql_syntax.specs.declared.syntax.Expr.TheFolds.{fold-Expr, fold-Link, 
 use Rattle.ql_syntax.specs.declared.syntax.Field.{Field}
 use Rattle.ql_syntax.specs.declared.syntax.FromSet.{FromSet}
 use Rattle.ql_syntax.specs.declared.syntax.Function.{Function}
-use Rattle.ql_syntax.specs.declared.syntax.Function.TheVariants as f
 use Rattle.ql_syntax.specs.declared.syntax.Join.{Join}
 use Rattle.ql_syntax.specs.declared.syntax.Link.{Link}
 use Rattle.ql_syntax.specs.declared.syntax.Select.{Select}
 use Rattle.ql_syntax.specs.declared.syntax.SetSource.{SetSource}
 use Rattle.ql_syntax.specs.declared.syntax.Side.{Side}
 use Rattle.ql_syntax.specs.declared.syntax.Side.TheVariants as side
+use Rattle.ql_syntax.specs.Functions.{function_bytes}
 use Rattle.ql_syntax.specs.Ink.{Ink, space, mark, keyword, small, name, number, string, between, listed, bracketed}
 
 -- a printed part
@@ -75,20 +75,6 @@ word_of_kind k.Uint32 = w.Uint32
 word_of_kind k.Uint64 = w.Uint64
 word_of_kind k.Text = w.String
 word_of_kind k.Blob = w.Blob
-
--- the name of a function
-abbrev pub function_bytes : Function → List ℕ
-function_bytes f.Id = codes "id"
-function_bytes f.Len = codes "len"
-function_bytes f.Contains = codes "contains"
-function_bytes f.HasPrefix = codes "hasPrefix"
-function_bytes f.HasSuffix = codes "hasSuffix"
-function_bytes f.Coalesce = codes "coalesce"
-function_bytes f.Count = codes "count"
-function_bytes f.Sum = codes "sum"
-function_bytes f.Avg = codes "avg"
-function_bytes f.Min = codes "min"
-function_bytes f.Max = codes "max"
 
 -- `true` or `false`
 abbrev pub ink_of_truth : Bool → Ink

@@ -1,5 +1,5 @@
 -- The syntax tree of a reading of an expression or of a SELECT. A reading of another shape than its rule's has no meaning.
-use Rattle.std.specs.Prelude.{ℕ, Bool, true, false, if◌then◌else◌, List, [], ◌∷◌, codes, Option, Some, None}
+use Rattle.std.specs.Prelude.{ℕ, Bool, true, false, if◌then◌else◌, List, [], ◌∷◌, Option, Some, None}
 use Rattle.std.specs.Str.{bytes_eq}
 use Rattle.ql_lex.specs.Meaning.{text_value}
 use Rattle.ql_lex.specs.Numbers.{number_value}
@@ -26,6 +26,7 @@ use Rattle.ql_syntax.specs.declared.syntax.SetSource.{SetSource}
 use Rattle.ql_syntax.specs.declared.syntax.SetSource.TheVariants as source
 use Rattle.ql_syntax.specs.declared.syntax.Side.{Side}
 use Rattle.ql_syntax.specs.declared.syntax.Side.TheVariants as side
+use Rattle.ql_syntax.specs.Functions.{function_bytes}
 use Rattle.ql_syntax.specs.Rules as p
 use Rattle.ql_syntax.specs.Readings.{Parse, leaf, pair, left, right, present, cell, group, node}
 
@@ -84,16 +85,16 @@ kind_named _ = k.Uint64
 -- the function with a name
 abbrev pub function_named : List ℕ → Function
 function_named name =
-    if bytes_eq name (codes "id") then f.Id
-    else (if bytes_eq name (codes "len") then f.Len
-    else (if bytes_eq name (codes "contains") then f.Contains
-    else (if bytes_eq name (codes "hasPrefix") then f.HasPrefix
-    else (if bytes_eq name (codes "hasSuffix") then f.HasSuffix
-    else (if bytes_eq name (codes "coalesce") then f.Coalesce
-    else (if bytes_eq name (codes "count") then f.Count
-    else (if bytes_eq name (codes "sum") then f.Sum
-    else (if bytes_eq name (codes "avg") then f.Avg
-    else (if bytes_eq name (codes "min") then f.Min else f.Max)))))))))
+    if bytes_eq name (function_bytes f.Id) then f.Id
+    else (if bytes_eq name (function_bytes f.Len) then f.Len
+    else (if bytes_eq name (function_bytes f.Contains) then f.Contains
+    else (if bytes_eq name (function_bytes f.HasPrefix) then f.HasPrefix
+    else (if bytes_eq name (function_bytes f.HasSuffix) then f.HasSuffix
+    else (if bytes_eq name (function_bytes f.Coalesce) then f.Coalesce
+    else (if bytes_eq name (function_bytes f.Count) then f.Count
+    else (if bytes_eq name (function_bytes f.Sum) then f.Sum
+    else (if bytes_eq name (function_bytes f.Avg) then f.Avg
+    else (if bytes_eq name (function_bytes f.Min) then f.Min else f.Max)))))))))
 
 -- a part that may be left out is there
 abbrev pub is_present : Parse → Bool

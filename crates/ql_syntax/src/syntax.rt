@@ -1,5 +1,6 @@
 ghost use Rattle.std.specs.Prelude.{◌≡◌};
 ghost use Rattle.ql_syntax.specs.Aggregates as spec;
+ghost use Rattle.ql_syntax.specs.Functions as functions;
 
 use ql_edge::{Boxed, Bytes, Items, Name};
 use ql_value::{BinOp, Kind, UnOps};
@@ -21,6 +22,39 @@ pub enum Function {
 }
 
 impl Function {
+    /// Its name, as a script writes it.
+    pub fn name(self) -> &'static [u8]
+        ensures { result.now ≡ functions.function_bytes self }
+    {
+        match self {
+            Function::Id => b"id",
+            Function::Len => b"len",
+            Function::Contains => b"contains",
+            Function::HasPrefix => b"hasPrefix",
+            Function::HasSuffix => b"hasSuffix",
+            Function::Coalesce => b"coalesce",
+            Function::Count => b"count",
+            Function::Sum => b"sum",
+            Function::Avg => b"avg",
+            Function::Min => b"min",
+            Function::Max => b"max",
+        }
+    }
+
+    /// Whether it may be called with so many parts. The `*` of `count(*)` is none.
+    pub fn takes(self, count: usize) -> bool
+        ensures { result ≡ functions.takes self count }
+    {
+        match self {
+            Function::Id | Function::Count => count < 2,
+            Function::Contains | Function::HasPrefix | Function::HasSuffix => count == 2,
+            Function::Coalesce => 0 < count,
+            Function::Len | Function::Sum | Function::Avg | Function::Min | Function::Max => {
+                count == 1
+            }
+        }
+    }
+
     /// Whether it is an aggregate, which gives a value of the rows of a group.
     pub fn is_aggregate(self) -> bool
         ensures { result ≡ spec.is_aggregate self }

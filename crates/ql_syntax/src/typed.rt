@@ -9,7 +9,7 @@ pub enum Typed {
     Constant(Value),
     /// The value at that place of the row.
     Place {
-        at: u32,
+        at: usize,
     },
     /// Parts between operators of one level, from left to right.
     Chain {

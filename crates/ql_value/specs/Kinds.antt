@@ -1,5 +1,7 @@
 -- Groups of kinds, as tests.
-use Rattle.std.specs.Prelude.{ℕ, Bool, true, false, ◌==◌}
+use Rattle.std.specs.Prelude.{Bool, true, false}
+use denote.Enum.Bare.{sameb}
+use Rattle.ql_value.specs.contracts.value.Kind as kind
 use Rattle.ql_value.specs.declared.value.Kind.{Kind}
 use Rattle.ql_value.specs.declared.value.Kind.TheVariants as k
 
@@ -34,20 +36,6 @@ is_byte_list k.Text = true
 is_byte_list k.Blob = true
 is_byte_list _ = false
 
--- the place of a kind among the kinds
-abbrev pub kind_number : Kind → ℕ
-kind_number k.Bool = 0
-kind_number k.Int8 = 1
-kind_number k.Int16 = 2
-kind_number k.Int32 = 3
-kind_number k.Int64 = 4
-kind_number k.Uint8 = 5
-kind_number k.Uint16 = 6
-kind_number k.Uint32 = 7
-kind_number k.Uint64 = 8
-kind_number k.Text = 9
-kind_number k.Blob = 10
-
 -- the two are one kind
 abbrev pub same_kind : Kind → Kind → Bool
-same_kind a b = kind_number a == kind_number b
+same_kind a b = sameb kind.the_type a b

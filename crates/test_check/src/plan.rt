@@ -7,7 +7,7 @@ use ql_value::print_number;
 fn add_place(expr: &Typed, out: &mut Bytes) -> Result<(), NoMemory> {
     if let Typed::Place { at } = expr {
         out.push(b'@')?;
-        print_number(u64::from(*at), out)?;
+        print_number(*at as u64, out)?;
     }
     Ok(())
 }
