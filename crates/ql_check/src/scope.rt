@@ -130,7 +130,8 @@ fn find_column(
         spec.places_named (bytes_of set.entry) (Some column.now) 0 (spec.seen_slots scope.now) in
         Gives (spec.the_one name.now (spec.first_some fields columns)) result }
 {
-    match search(None, Some(name), scope.row.len(), scope.fields.as_slice()) {
+    let behind = scope.row.as_slice().len();
+    match search(None, Some(name), behind, scope.fields.as_slice()) {
         Hit::Nothing => {
             let hit = search(set, Some(column), 0, seen_slots(scope));
             one_of(alloc, name, hit)
