@@ -13,7 +13,7 @@ use Rattle.lldb_wal.proofs.OneState.{one_state, unequal}
 at_most : (n most : ℕ) → n ≤ most → nat_le n most ≡ true
 at_most n most within = grind (arith, nat_tests)
 
-by_log : (magic bytes l : List ℕ) (state : LogState) → IsOurs magic bytes → IsLog (length bytes) l state → opening magic bytes l ≡ beside state
+pub by_log : (magic bytes l : List ℕ) (state : LogState) → IsOurs magic bytes → IsLog (length bytes) l state → opening magic bytes l ≡ beside state
 by_log magic bytes l state ours is =
     rw (unequal (length bytes) 0 (λ e. omega (arith, e, ours.long)), (bytes_eq-Decides (take header bytes) magic).1 ours.begins, at_most (length bytes) longest ours.within)
     (ap beside (one_state (length bytes) l state is))

@@ -1,9 +1,17 @@
+pub mod Completed
+pub mod Filed
 pub mod Fronts
 pub mod Heads
 pub mod Held
+pub mod Logged
+pub mod OldOrNew
 pub mod OneState
 pub mod ReadParts
 pub mod ReadWhole
+pub mod Spelled
+pub mod Spells
 pub mod Spoiled
 pub mod Steps
+pub mod Times
 pub mod Windows
+pub mod Writing

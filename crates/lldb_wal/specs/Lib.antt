@@ -1,7 +1,10 @@
 pub mod Examples
 pub mod Fields
+pub mod Filer
+pub mod Kept
 pub mod Laws
 pub mod Log
 pub mod Opening
 pub mod Parts
+pub mod Spelling
 pub mod States

@@ -1,16 +1,20 @@
 //! The write-ahead log beside a data file: what it holds, and what two files are when they are opened.
 #![tactic(auto)]
 
+mod commit;
 mod fields;
+mod filer;
 mod files;
 mod header;
 mod laws;
 mod read_log;
 mod reading;
+mod spelling;
 mod state;
 mod two_files;
 mod window;
 
-pub use laws::{log_examples, log_laws};
+pub use filer::WalFiler;
+pub use laws::{log_examples, log_laws, spelling_laws};
 pub use state::{LogState, Opening};
 pub use two_files::read_files;

@@ -4,3 +4,4 @@ pub mod Stops
 pub mod Ids
 pub mod Places
 pub mod Promises
+pub mod NewNames

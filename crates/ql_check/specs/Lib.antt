@@ -3,3 +3,5 @@ pub mod Gives
 pub mod Names
 pub mod Outputs
 pub mod Forms
+pub mod Inserts
+pub mod NameSets

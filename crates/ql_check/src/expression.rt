@@ -88,7 +88,7 @@ pub(crate) fn check_expr(
     scope: &Scope,
     aggregates: bool,
 ) -> Result<Checked, CheckFault>
-    ensures { Gives (spec.checked scope.now aggregates expr.now) result }
+    ensures { Gives (spec.check_expr scope.now aggregates expr.now) result }
 {
     match expr {
         Expr::Chain { .. } => check_chain(alloc, expr, scope, aggregates),
@@ -139,7 +139,7 @@ fn check_chain(
     aggregates: bool,
 ) -> Result<Checked, CheckFault>
     requires { IsChain expr.now }
-    ensures { Gives (spec.checked scope.now aggregates expr.now) result }
+    ensures { Gives (spec.check_expr scope.now aggregates expr.now) result }
 {
     match expr {
         Expr::Chain { first, rest } => {
@@ -160,7 +160,7 @@ fn check_in(
     aggregates: bool,
 ) -> Result<Checked, CheckFault>
     requires { IsIn expr.now }
-    ensures { Gives (spec.checked scope.now aggregates expr.now) result }
+    ensures { Gives (spec.check_expr scope.now aggregates expr.now) result }
 {
     match expr {
         Expr::IsIn { not, part, list } => {
@@ -182,7 +182,7 @@ fn check_between(
     aggregates: bool,
 ) -> Result<Checked, CheckFault>
     requires { IsBetween expr.now }
-    ensures { Gives (spec.checked scope.now aggregates expr.now) result }
+    ensures { Gives (spec.check_expr scope.now aggregates expr.now) result }
 {
     match expr {
         Expr::IsBetween {
@@ -210,7 +210,7 @@ fn check_unary(
     aggregates: bool,
     ops: &[UnOp],
 ) -> Result<Checked, CheckFault>
-    ensures { Gives (then_with (spec.checked scope.now aggregates part.now)
+    ensures { Gives (then_with (spec.check_expr scope.now aggregates part.now)
         (spec_apply_ops ops.now)) result }
 {
     let part = check_expr(alloc, part, scope, aggregates)?;
@@ -226,7 +226,7 @@ fn check_paren(
     scope: &Scope,
     aggregates: bool,
 ) -> Result<Checked, CheckFault>
-    ensures { Gives (then_with (spec.checked scope.now aggregates part.now)
+    ensures { Gives (then_with (spec.check_expr scope.now aggregates part.now)
         (λ c. Ok (spec_in_brackets c))) result }
 {
     let part = check_expr(alloc, part, scope, aggregates)?;
@@ -243,7 +243,7 @@ fn check_convert(
     aggregates: bool,
     kind: Kind,
 ) -> Result<Checked, CheckFault>
-    ensures { Gives (then_with (spec.checked scope.now aggregates part.now)
+    ensures { Gives (then_with (spec.check_expr scope.now aggregates part.now)
         (spec_convert_to kind)) result }
 {
     let part = check_expr(alloc, part, scope, aggregates)?;
@@ -259,7 +259,7 @@ fn check_in_select(
     scope: &Scope,
     aggregates: bool,
 ) -> Result<Checked, CheckFault>
-    ensures { Gives (then_with (spec.checked scope.now aggregates part.now)
+    ensures { Gives (then_with (spec.check_expr scope.now aggregates part.now)
         (λ c. spec_refused LATER)) result }
 {
     check_expr(alloc, part, scope, aggregates)?;
@@ -276,7 +276,7 @@ fn check_null_test(
     aggregates: bool,
     negated: bool,
 ) -> Result<Checked, CheckFault>
-    ensures { Gives (then_with (spec.checked scope.now aggregates part.now)
+    ensures { Gives (then_with (spec.check_expr scope.now aggregates part.now)
         (λ c. Ok (spec_null_test negated c))) result }
 {
     let part = check_expr(alloc, part, scope, aggregates)?;
@@ -392,7 +392,7 @@ fn id_of_part(
     aggregates: bool,
 ) -> Result<Checked, CheckFault>
     ensures { let name = spec.bare_name (spec.judge scope.now part.now).ref in
-        Gives (spec.id_of_part scope.now name (spec.checked scope.now aggregates part.now)) result }
+        Gives (spec.id_of_part scope.now name (spec.check_expr scope.now aggregates part.now)) result }
 {
     match bare_name(part) {
         Some(name) => id_of_set(alloc, scope, name),

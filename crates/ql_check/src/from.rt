@@ -14,7 +14,7 @@ use ql_value::{AMBIGUOUS, Kind, LATER, NO_TABLE, Refusal};
 use std::alloc::Global;
 
 /// The table with a name.
-fn table_named<'a>(name: &[u8], tables: &'a TableSchemas) -> Option<&'a TableSchema>
+pub(crate) fn table_named<'a>(name: &[u8], tables: &'a TableSchemas) -> Option<&'a TableSchema>
     ensures { table_of result ≡ spec.table_named name.now tables.now }
 {
     'tables: for table in tables.as_slice() {
@@ -26,7 +26,7 @@ fn table_named<'a>(name: &[u8], tables: &'a TableSchemas) -> Option<&'a TableSch
 }
 
 /// Whether the set describes the database itself.
-fn is_metadata(name: &[u8]) -> bool
+pub(crate) fn is_metadata(name: &[u8]) -> bool
     ensures { result ≡ spec.is_metadata name.now }
 {
     name == b"__Table".as_slice() || name == b"__Column".as_slice() || name == b"__Index".as_slice()

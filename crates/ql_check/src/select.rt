@@ -19,7 +19,7 @@ use ql_value::{LATER, Refusal};
 use std::alloc::Global;
 
 /// A row, and no field.
-fn row_scope(alloc: Global, slots: Slots) -> Scope
+pub(crate) fn row_scope(alloc: Global, slots: Slots) -> Scope
     ensures { result ≡ spec.row_scope slots }
 {
     Scope {

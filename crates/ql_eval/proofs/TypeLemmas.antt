@@ -1,5 +1,5 @@
 -- What a type that stands says of its parts, and of values of them.
-use Rattle.std.proofs.Common.{◌≡◌, ℕ, Bool, true, false, ◌==◌, if◌then◌else◌, refl, sym, ap, subst, ◌∙◌}
+use Rattle.std.proofs.Common.{rules, ◌≡◌, ℕ, Bool, true, false, ◌==◌, if◌then◌else◌, refl, sym, ap, subst, ◌∙◌}
 use denote.Enum.Bare.{same_true}
 use Rattle.ql_value.specs.declared.value.Kind.{Kind}
 use Rattle.ql_value.specs.declared.value.Kind.TheVariants as k

@@ -13,6 +13,7 @@ pub mod Sourced
 pub mod Selected
 pub mod Exits
 pub mod Carried
+pub mod Checked
 pub mod LawfulTables
 pub mod LawfulRows
 pub mod LawfulEffects

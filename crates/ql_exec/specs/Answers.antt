@@ -9,6 +9,8 @@ use Rattle.ql_rel.specs.Answers.{Answer}
 use Rattle.ql_rel.specs.declared.fault.RelFault.{RelFault}
 use Rattle.ql_rel.specs.declared.fault.RelFault.TheVariants as rel
 use Rattle.ql_rel.specs.declared.number.TheConstants.{ROW_TOO_LONG, KEY_TOO_LONG, IDS_SPENT, TABLE_LIMIT_REFUSAL}
+use Rattle.ql_check.specs.declared.fault.CheckFault.{CheckFault}
+use Rattle.ql_check.specs.declared.fault.CheckFault.TheVariants as check
 use Rattle.ql_exec.specs.declared.fault.ExecFault.{ExecFault}
 use Rattle.ql_exec.specs.declared.fault.ExecFault.TheVariants as fault
 
@@ -29,3 +31,8 @@ fault_of (rel.KeyTooLong index) = fault.Refused (record { number = KEY_TOO_LONG;
 fault_of rel.IdsSpent = fault.Refused (record { number = IDS_SPENT; name = [] })
 fault_of rel.TableLimit = fault.Refused (record { number = TABLE_LIMIT_REFUSAL; name = [] })
 fault_of (rel.Trouble t) = fault.Trouble t
+
+-- what the refusal of a statement that has no plan becomes
+abbrev pub fault_of_check : CheckFault → ExecFault
+fault_of_check (check.Refused r) = fault.Refused r
+fault_of_check check.NoMemory = fault.Trouble trouble.NoMemory

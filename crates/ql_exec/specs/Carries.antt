@@ -1,7 +1,8 @@
 -- How a statement that was carried out stands to its effect, and what it leaves.
-use Rattle.std.specs.Prelude.{◌≡◌, ℕ, List, ◌++◌, Option, Some, Result, Ok, Err}
+use Rattle.std.specs.Prelude.{◌≡◌, ℕ, List, ◌++◌, Option, Some, IfSome, Result, Ok, Err, OnOk}
 use Rattle.ql_rel.specs.declared.db.Db.{Db}
 use Rattle.ql_rel.specs.Answers.{Answer}
+use Rattle.ql_rel.specs.Lawful.{IsLawful}
 use Rattle.ql_rel.specs.Refusals.{IsTroubleCaused}
 use Rattle.ql_exec.specs.declared.fault.ExecFault.{ExecFault}
 use Rattle.ql_exec.specs.declared.fault.ExecFault.TheVariants as fault
@@ -54,3 +55,7 @@ abbrev pub IsTroubleAlone : {T : Type 0} → Result T ExecFault → Type 0
 IsTroubleAlone (Ok _) = Unit {0}
 IsTroubleAlone (Err (fault.Refused _)) = ⊥
 IsTroubleAlone (Err (fault.Trouble _)) = Unit {0}
+
+-- a statement that was carried out on a lawful database left a lawful one
+abbrev pub StaysLawful : {T : Type 0} → (told : Option Db) → Result T ExecFault → (held : Option Db) → Type 0
+StaysLawful told result held = IfSome told (λ d. IsLawful d → OnOk result (IfSome held IsLawful))

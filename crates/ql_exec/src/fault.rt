@@ -2,10 +2,11 @@
 
 ghost use Rattle.std.specs.Prelude.{◌≡◌, []};
 ghost use Rattle.lldb_base.specs.declared.trouble.Trouble.TheVariants as trouble;
-ghost use Rattle.ql_exec.specs.Answers.{fault_of};
+ghost use Rattle.ql_exec.specs.Answers.{fault_of, fault_of_check};
 ghost use Rattle.ql_exec.specs.declared.fault.ExecFault.TheVariants as variant;
 
 use lldb_base::Trouble;
+use ql_check::CheckFault;
 use ql_edge::NoMemory;
 use ql_rel::{IDS_SPENT, KEY_TOO_LONG, ROW_TOO_LONG, RelFault, TABLE_LIMIT_REFUSAL};
 use ql_value::Refusal;
@@ -48,5 +49,15 @@ pub(crate) fn refused_by(alloc: Global, fault: RelFault) -> ExecFault
         RelFault::IdsSpent => refused(alloc, IDS_SPENT),
         RelFault::TableLimit => refused(alloc, TABLE_LIMIT_REFUSAL),
         RelFault::Trouble(trouble) => ExecFault::Trouble(trouble),
+    }
+}
+
+/// What the refusal of a statement that has no plan becomes.
+pub(crate) fn unplanned(fault: CheckFault) -> ExecFault
+    ensures { result ≡ fault_of_check fault }
+{
+    match fault {
+        CheckFault::Refused(refusal) => ExecFault::Refused(refusal),
+        CheckFault::NoMemory => ExecFault::Trouble(Trouble::NoMemory),
     }
 }

@@ -2,6 +2,7 @@
 #![tactic(auto)]
 
 mod create;
+mod execution;
 mod fault;
 mod insert;
 mod laws;
@@ -12,6 +13,7 @@ mod text;
 mod values;
 
 pub use create::create_table;
+pub use execution::exec;
 pub use fault::ExecFault;
 pub use insert::insert_rows;
 pub use laws::effect_laws;

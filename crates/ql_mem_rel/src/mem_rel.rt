@@ -48,6 +48,7 @@ impl MemRel {
         ensures saved { ⟦<MemRel as Rel>⟧.saved result ≡ [] }
         ensures given { ⟦<MemRel as Rel>⟧.given result ≡ 0 }
         ensures ready { ⟦<MemRel as Rel>⟧.is_ready result ≡ true }
+        ensures sound { ⟦<MemRel as Rel>⟧.is_sound result ≡ true }
         ensures limit { ⟦<MemRel as Rel>⟧.limit result ≡ None }
         ensures told { ⟦<MemRel as Shows>⟧.told result ≡ Some ([], []) }
     {
@@ -72,11 +73,11 @@ impl Shows for MemRel {
 
     ghost same = { λ x y. IsSameRel (Some (db_of x.present)) (Some (db_of y.present))
         (saved_of x.saved.items) (saved_of y.saved.items) x.present.schema y.present.schema
-        x.given y.given x.ready y.ready None None };
+        x.given y.given x.ready y.ready true true None None };
 
     ghost fixed = { λ _. [] };
 
-    ghost same_reflexive = { λ x. same_first _ _ _ _ _ _ };
+    ghost same_reflexive = { λ x. same_first _ _ _ _ _ _ _ };
 
     ghost same_transitive = { λ x y z p q. same_then p q };
 
@@ -99,6 +100,8 @@ impl Rel for MemRel {
     ghost given = { λ m. m.given };
 
     ghost is_ready = { λ m. m.ready };
+
+    ghost is_sound = { λ _. true };
 
     ghost limit = { λ _. None };
 
@@ -232,6 +235,8 @@ impl Rel for MemRel {
     ghost within = { λ m. m.present.within };
 
     ghost formed = { λ m _. well_formed m.present m.formed };
+
+    ghost usable = { λ _ _. refl };
 
     ghost told_schema = { λ m. same_schema m.present };
 

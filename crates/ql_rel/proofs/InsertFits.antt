@@ -18,7 +18,7 @@ use Rattle.ql_rel.specs.Checked.{meet_type, require_type}
 use Rattle.ql_rel.specs.InsertPlans.{for_kind, for_columns, counted_for, value_row, source_rows}
 use Rattle.ql_rel.specs.InsertTypes.{RowTyped, RowsTyped}
 use Rattle.ql_rel.specs.Plans.{row_scope}
-use Rattle.ql_rel.specs.Types.{checked}
+use Rattle.ql_rel.specs.Types.{check_expr}
 use Rattle.ql_rel.proofs.Fits.{Fits, then_ok, same_ok, ruled_ok, meet_fits}
 use Rattle.ql_rel.proofs.Judged.{is_so}
 use Rattle.ql_syntax.proofs.NoAggregates.{row_type}
@@ -56,16 +56,16 @@ counted_typed : (columns : List ColumnDef) (parts : List Checked) (row : List Ty
 counted_typed columns parts row h true e a = columns_typed columns parts row (same_length (length parts) (length columns) e) h (rw e at a)
 counted_typed columns parts row h false e a = absurd (let no = rw e at a in cc)
 
-seen_all : (exprs : List Expr) (parts : List Checked) → all_of (map (checked (row_scope []) false) exprs) ≡ Ok parts → AllByRecursion Seen parts
+seen_all : (exprs : List Expr) (parts : List Checked) → all_of (map (check_expr (row_scope []) false) exprs) ≡ Ok parts → AllByRecursion Seen parts
 seen_all [] parts a = subst (AllByRecursion Seen) (same_ok [] parts a) tt
 seen_all (e ∷ exprs) parts a =
-    let c = then_ok (checked (row_scope []) false e) (λ x. then_with (all_of (map (checked (row_scope []) false) exprs)) (λ xs. Ok (x ∷ xs))) parts a in
-    let more = then_ok (all_of (map (checked (row_scope []) false) exprs)) (λ xs. Ok (c.0 ∷ xs)) parts c.2 in
+    let c = then_ok (check_expr (row_scope []) false e) (λ x. then_with (all_of (map (check_expr (row_scope []) false) exprs)) (λ xs. Ok (x ∷ xs))) parts a in
+    let more = then_ok (all_of (map (check_expr (row_scope []) false) exprs)) (λ xs. Ok (c.0 ∷ xs)) parts c.2 in
     subst (AllByRecursion Seen) (same_ok (c.0 ∷ more.0) parts more.2) (is_so [] (row_scope []) no_slots e false c.0 c.1, seen_all exprs more.0 more.1)
 
 row_typed : (columns : List ColumnDef) (exprs : List Expr) (row : List Typed) → value_row columns exprs ≡ Ok row → RowTyped columns row
 row_typed columns exprs row a =
-    let p = then_ok (all_of (map (checked (row_scope []) false) exprs)) (counted_for columns) row a in
+    let p = then_ok (all_of (map (check_expr (row_scope []) false) exprs)) (counted_for columns) row a in
     counted_typed columns p.0 row (seen_all exprs p.0 p.1) (length p.0 == length columns) refl p.2
 
 all_typed : (columns : List ColumnDef) (exprs : List (List Expr)) (rows : List (List Typed)) → all_of (map (value_row columns) exprs) ≡ Ok rows → RowsTyped columns rows

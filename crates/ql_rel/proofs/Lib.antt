@@ -10,6 +10,7 @@ pub mod Judged
 pub mod PlanFits
 pub mod SelectFits
 pub mod EffectExamples
+mod RowFits
 mod ChangeLemmas
 mod FormLemmas
 mod NameLemmas

@@ -11,7 +11,7 @@ use Rattle.ql_rel.specs.declared.scope.Scope.{Scope}
 use Rattle.ql_rel.specs.declared.select.ResultField.{ResultField}
 use Rattle.ql_rel.specs.Answers.{then_with}
 use Rattle.ql_rel.specs.Checked.{require_type}
-use Rattle.ql_rel.specs.Types.{checked, plain_name}
+use Rattle.ql_rel.specs.Types.{check_expr, plain_name}
 use Rattle.ql_rel.specs.Plans.{field_name, resolve_among, resolve_if, resolve, resolve_each, result_field, written_fields}
 use Rattle.ql_syntax.specs.GroupTyping.{type_in_group}
 use Rattle.ql_rel.specs.PlanTypes.{AreTyped}
@@ -27,14 +27,14 @@ FieldsFit row (x ∷ fields) = (IsTyped x.expr.typing × (type_in_group row x.ex
 
 module _ (row : List Typing) (scope : Scope) (stands : Stands row scope) where
   -- an expression without aggregate has its type
-  pub checked_type : (e : Expr) (c : Checked) → checked scope false e ≡ Ok c → IsTyped c.typing × (type_of row c.tree ≡ c.typing)
+  pub checked_type : (e : Expr) (c : Checked) → check_expr scope false e ≡ Ok c → IsTyped c.typing × (type_of row c.tree ≡ c.typing)
   checked_type e c a =
       let f = is_so row scope stands e false c a in
       (f.typed, sym (row_type row c.tree) ∙ f.is)
 
   pub tested_type : (test : Kind → Bool) (e : Expr) (tree : Typed) → resolve_among test scope e ≡ Ok tree → IsTyped (among test (type_of row tree))
   tested_type test e tree a =
-      let s = then_ok (checked scope false e) (λ c. then_with (require_type (among test c.typing)) (λ _. Ok c.tree)) tree a in
+      let s = then_ok (check_expr scope false e) (λ c. then_with (require_type (among test c.typing)) (λ _. Ok c.tree)) tree a in
       let m = then_ok (require_type (among test s.0.typing)) (λ _. Ok s.0.tree) tree s.2 in
       let r = ruled_ok (among test s.0.typing) m.0 m.1 in
       let c = checked_type e s.0 s.1 in
@@ -51,14 +51,14 @@ module _ (row : List Typing) (scope : Scope) (stands : Stands row scope) where
   resolved_types (e ∷ es) trees a =
       let s = then_ok (resolve scope e) (λ x. then_with (resolve_each scope es) (λ xs. Ok (x ∷ xs))) trees a in
       let m = then_ok (resolve_each scope es) (λ xs. Ok (s.0 ∷ xs)) trees s.2 in
-      let o = then_ok (checked scope false e) (λ c. Ok c.tree) s.0 s.1 in
+      let o = then_ok (check_expr scope false e) (λ c. Ok c.tree) s.0 s.1 in
       let c = checked_type e o.0 o.1 in
       let one : IsTyped (type_of row s.0) = subst (λ x. IsTyped (type_of row x)) (same_ok o.0.tree s.0 o.2) (subst IsTyped (sym c.1) c.0) in
       subst (AreTyped (type_of row)) (same_ok (s.0 ∷ m.0) trees m.2) (one, resolved_types es m.0 m.1)
 
   field_fits : (alias : Option (List ℕ)) (e : Expr) (x : ResultField) → result_field scope alias e ≡ Ok x → IsTyped x.expr.typing × (type_in_group row x.expr.tree ≡ x.expr.typing)
   field_fits alias e x a =
-      let s = then_ok (checked scope true e) (λ c. Ok (record { name = field_name alias (plain_name e); expr = c })) x a in
+      let s = then_ok (check_expr scope true e) (λ c. Ok (record { name = field_name alias (plain_name e); expr = c })) x a in
       let f = is_so row scope stands e true s.0 s.1 in
       subst (λ y. IsTyped y.expr.typing × (type_in_group row y.expr.tree ≡ y.expr.typing)) (same_ok (record { name = field_name alias (plain_name e); expr = s.0 }) x s.2) (f.typed, f.is)
 

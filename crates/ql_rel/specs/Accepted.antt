@@ -23,7 +23,7 @@ use Rattle.ql_rel.specs.Databases.{empty_schema}
 use Rattle.ql_rel.specs.Limits.{is_past_table, is_past_index}
 use Rattle.ql_rel.specs.Names.{placed, has_name, are_different, column_names, is_name_taken}
 use Rattle.ql_rel.specs.declared.scope.Scope.{Scope}
-use Rattle.ql_rel.specs.Types.{checked}
+use Rattle.ql_rel.specs.Types.{check_expr}
 
 -- the name begins with two underscores
 abbrev pub is_reserved : List ℕ → Bool
@@ -40,11 +40,11 @@ no_scope = record { row = []; fields = []; hides = false }
 
 -- a rule that is a truth
 abbrev pub rule_of : Scope → Expr → Answer Typing
-rule_of scope rule = then_with (checked scope false rule) (λ c. require_type (among is_truth c.typing))
+rule_of scope rule = then_with (check_expr scope false rule) (λ c. require_type (among is_truth c.typing))
 
 -- a default of the column's kind
 abbrev pub default_of : Kind → Expr → Answer Typing
-default_of kind default = then_with (checked no_scope false default) (λ c. then_with (meet_type (OfKind kind) c) (λ d. require_type (among (same_kind kind) d.typing)))
+default_of kind default = then_with (check_expr no_scope false default) (λ c. then_with (meet_type (OfKind kind) c) (λ d. require_type (among (same_kind kind) d.typing)))
 
 abbrev pub is_rule : Scope → Option Expr → Bool
 is_rule scope None = true

@@ -20,7 +20,7 @@ use Rattle.ql_rel.specs.Checked.{meet_type, require_type}
 use Rattle.ql_rel.specs.CreatePlans.{no_parts, takes_all}
 use Rattle.ql_rel.specs.NewNames.{known_table}
 use Rattle.ql_rel.specs.Plans.{row_scope}
-use Rattle.ql_rel.specs.Types.{checked}
+use Rattle.ql_rel.specs.Types.{check_expr}
 
 -- a value for a column of a kind: an untyped one takes the kind, 7 where it is outside, and another has it, else 5
 abbrev pub for_kind : Kind → Checked → Answer Typed
@@ -38,7 +38,7 @@ counted_for columns parts = if length parts == length columns then for_columns c
 
 -- a row of VALUES, whose expressions see nothing: first they themselves, then their number, then each against its column
 abbrev pub value_row : List ColumnDef → List Expr → Answer (List Typed)
-value_row columns exprs = then_with (all_of (map (checked (row_scope []) false) exprs)) (counted_for columns)
+value_row columns exprs = then_with (all_of (map (check_expr (row_scope []) false) exprs)) (counted_for columns)
 
 -- the rows of an INSERT; a SELECT is not built yet
 abbrev pub source_rows : List ColumnDef → RowSource → Answer (List (List Typed))

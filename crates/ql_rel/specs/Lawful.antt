@@ -16,7 +16,7 @@ use Rattle.ql_rel.specs.declared.schema.Index.{Index}
 use Rattle.ql_rel.specs.Accepted.{rule_scope}
 use Rattle.ql_rel.specs.Limits.{key_of}
 use Rattle.ql_rel.specs.declared.scope.Scope.{Scope}
-use Rattle.ql_rel.specs.Types.{checked}
+use Rattle.ql_rel.specs.Types.{check_expr}
 use Rattle.ql_rel.specs.WellFormed.{IsWellFormed}
 
 -- the value is NULL
@@ -60,7 +60,7 @@ AllMayStand (column ∷ columns) (x ∷ values) = MayStand column x × AllMaySta
 -- a rule gives true for the values of a row
 abbrev pub IsTrueOf : Scope → List Value → Option Expr → Type 0
 IsTrueOf scope values None = Unit {0}
-IsTrueOf scope values (Some rule) = IsOkAnd (checked scope false rule) (λ c. value_at values c.tree ≡ gives (v.Bool true))
+IsTrueOf scope values (Some rule) = IsOkAnd (check_expr scope false rule) (λ c. value_at values c.tree ≡ gives (v.Bool true))
 
 -- a row meets the conditions of its table's columns
 pub record MeetsColumns (table : Table) (row : Row) : Type 0 where

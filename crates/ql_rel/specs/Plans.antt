@@ -34,7 +34,7 @@ use Rattle.ql_rel.specs.declared.schema.TableSchema.{TableSchema}
 use Rattle.ql_rel.specs.Answers.{Answer, refused, refused_at, then_with, all_of}
 use Rattle.ql_rel.specs.Scopes.{is_called, written}
 use Rattle.ql_rel.specs.Checked.{of_type, require_type}
-use Rattle.ql_rel.specs.Types.{Ref, plain_name, checked}
+use Rattle.ql_rel.specs.Types.{Ref, plain_name, check_expr}
 
 -- the table with a name
 abbrev pub table_named : List ℕ → List TableSchema → Option TableSchema
@@ -97,7 +97,7 @@ row_scope slots = record { row = slots; fields = []; hides = false }
 
 -- an expression without aggregate, whose kind passes a test
 abbrev pub resolve_among : (Kind → Bool) → Scope → Expr → Answer Typed
-resolve_among test scope e = then_with (checked scope false e) (λ c. then_with (require_type (among test c.typing)) (λ _. Ok c.tree))
+resolve_among test scope e = then_with (check_expr scope false e) (λ c. then_with (require_type (among test c.typing)) (λ _. Ok c.tree))
 
 -- the same, where it stands
 abbrev pub resolve_if : (Kind → Bool) → Scope → Option Expr → Answer (Option Typed)
@@ -106,7 +106,7 @@ resolve_if test scope (Some e) = then_with (resolve_among test scope e) (λ tree
 
 -- an expression without aggregate, of any type
 abbrev pub resolve : Scope → Expr → Answer Typed
-resolve scope e = then_with (checked scope false e) (λ c. Ok c.tree)
+resolve scope e = then_with (check_expr scope false e) (λ c. Ok c.tree)
 
 abbrev pub resolve_each : Scope → List Expr → Answer (List Typed)
 resolve_each scope exprs = all_of (map (resolve scope) exprs)
@@ -119,7 +119,7 @@ field_name None None = []
 
 -- a field
 abbrev pub result_field : Scope → Option (List ℕ) → Expr → Answer ResultField
-result_field scope alias e = then_with (checked scope true e) (λ c. Ok (record { name = field_name alias (plain_name e); expr = c }))
+result_field scope alias e = then_with (check_expr scope true e) (λ c. Ok (record { name = field_name alias (plain_name e); expr = c }))
 
 -- the name of a column of `*`: with that of its set, where several sets have one
 abbrev pub star_name : Bool → Option (List ℕ) → List ℕ → List ℕ

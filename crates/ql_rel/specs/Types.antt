@@ -136,5 +136,5 @@ abbrev pub judge_link : Scope → Link → JudgedLink
 judge_link scope = fold_link_parts Judged JudgedLink (expr_step scope) link_step
 
 -- what is known of an expression in a scope, or its first refusal; the truth says whether an aggregate may stand there
-abbrev pub checked : Scope → Bool → Expr → Answer Checked
-checked scope aggregates e = (judge scope e).answer aggregates
+abbrev pub check_expr : Scope → Bool → Expr → Answer Checked
+check_expr scope aggregates e = (judge scope e).answer aggregates

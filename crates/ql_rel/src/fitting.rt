@@ -9,14 +9,16 @@ use ql_value::{Kind, Value, fit};
 
 /// Whether the number is one of the kind.
 fn has_number(kind: Kind, own: Kind, number: i128) -> bool
-    ensures { result ≡ true → HasKind kind (value.Int own number) }
+    ensures only { result ≡ true → HasKind kind (value.Int own number) }
+    ensures all { HasKind kind (value.Int own number) → result ≡ true }
 {
     own == kind && kind.is_integer() && fit(kind, number).is_ok()
 }
 
 /// Whether the value is NULL, or one of the kind.
 fn has_kind(kind: Kind, value: &Value) -> bool
-    ensures { result ≡ true → HasKind kind value.now }
+    ensures only { result ≡ true → HasKind kind value.now }
+    ensures all { HasKind kind value.now → result ≡ true }
 {
     match value {
         Value::Null => true,
@@ -29,7 +31,8 @@ fn has_kind(kind: Kind, value: &Value) -> bool
 
 /// Whether there is one value for each column, and each is NULL or of its column's kind.
 pub fn is_row_of(columns: &[ColumnDef], values: &[Value]) -> bool
-    ensures { result ≡ true → Fits columns.now values.now }
+    ensures only { result ≡ true → Fits columns.now values.now }
+    ensures all { Fits columns.now values.now → result ≡ true }
 {
     if columns.len() != values.len() {
         return false;

@@ -35,6 +35,9 @@ pub trait Rel: Shows {
 
     ghost is_ready: { Self → Bool };
 
+    /// Whether the relation is ready once every level is rolled back.
+    ghost is_sound: { Self → Bool };
+
     /// The limit of what lies under the tables, where there is one.
     ghost limit: { Self → Option ℕ };
 
@@ -68,6 +71,7 @@ pub trait Rel: Shows {
         ensures schema { schema self.new ≡ schema self.old }
         ensures ready { is_ready self.new ≡ is_ready self.old }
         ensures limit { limit self.new ≡ limit self.old }
+        ensures sound { is_sound self.new ≡ is_sound self.old }
         ensures told { Self.told self.new ≡ Self.told self.old }
         ensures left { Self.left self.new ≡ Self.left self.old }
         ensures fixed { Self.fixed self.new ≡ Self.fixed self.old }
@@ -90,6 +94,7 @@ pub trait Rel: Shows {
         ensures schema { schema self.new ≡ schema self.old }
         ensures ready { is_ready self.new ≡ is_ready self.old }
         ensures limit { limit self.new ≡ limit self.old }
+        ensures sound { is_sound self.new ≡ is_sound self.old }
         ensures told { Self.told self.new ≡ Self.told self.old }
         ensures left { Self.left self.new ≡ Self.left self.old }
         ensures fixed { Self.fixed self.new ≡ Self.fixed self.old }
@@ -113,6 +118,7 @@ pub trait Rel: Shows {
         ensures saved { saved self.new ≡ saved self.old }
         ensures given { given self.new ≡ given self.old }
         ensures limit { limit self.new ≡ limit self.old }
+        ensures sound { is_sound self.new ≡ is_sound self.old }
         ensures told { Self.told self.new ≡ Self.told self.old }
         ensures left { Self.left self.new ≡ Self.left self.old }
         ensures fixed { Self.fixed self.new ≡ Self.fixed self.old }
@@ -135,6 +141,7 @@ pub trait Rel: Shows {
         ensures saved { saved self.new ≡ saved self.old }
         ensures given { given self.new ≡ given self.old }
         ensures limit { limit self.new ≡ limit self.old }
+        ensures sound { is_sound self.new ≡ is_sound self.old }
         ensures told { Self.told self.new ≡ Self.told self.old }
         ensures left { Self.left self.new ≡ Self.left self.old }
         ensures fixed { Self.fixed self.new ≡ Self.fixed self.old }
@@ -154,6 +161,7 @@ pub trait Rel: Shows {
         ensures saved { saved self.new ≡ saved self.old }
         ensures given { given self.new ≡ given self.old }
         ensures limit { limit self.new ≡ limit self.old }
+        ensures sound { is_sound self.new ≡ is_sound self.old }
         ensures told { Self.told self.new ≡ Self.told self.old }
         ensures left { Self.left self.new ≡ Self.left self.old }
         ensures fixed { Self.fixed self.new ≡ Self.fixed self.old }
@@ -175,6 +183,7 @@ pub trait Rel: Shows {
         ensures saved { saved self.new ≡ saved self.old }
         ensures given { given self.new ≡ given self.old }
         ensures limit { limit self.new ≡ limit self.old }
+        ensures sound { is_sound self.new ≡ is_sound self.old }
         ensures told { Self.told self.new ≡ Self.told self.old }
         ensures left { Self.left self.new ≡ Self.left self.old }
         ensures fixed { Self.fixed self.new ≡ Self.fixed self.old }
@@ -192,6 +201,7 @@ pub trait Rel: Shows {
         ensures saved { saved self.new ≡ saved self.old }
         ensures given { given self.new ≡ given self.old }
         ensures limit { limit self.new ≡ limit self.old }
+        ensures sound { is_sound self.new ≡ is_sound self.old }
         ensures told { Self.told self.new ≡ Self.told self.old }
         ensures left { Self.left self.new ≡ Self.left self.old }
         ensures fixed { Self.fixed self.new ≡ Self.fixed self.old }
@@ -210,6 +220,7 @@ pub trait Rel: Shows {
         ensures saved { saved self.new ≡ saved self.old }
         ensures given { given self.new ≡ given self.old }
         ensures limit { limit self.new ≡ limit self.old }
+        ensures sound { is_sound self.new ≡ is_sound self.old }
         ensures told { Self.told self.new ≡ Self.told self.old }
         ensures left { Self.left self.new ≡ Self.left self.old }
         ensures fixed { Self.fixed self.new ≡ Self.fixed self.old }
@@ -235,6 +246,7 @@ pub trait Rel: Shows {
         ensures saved { saved self.new ≡ saved self.old }
         ensures given { given self.new ≡ given self.old }
         ensures limit { limit self.new ≡ limit self.old }
+        ensures sound { is_sound self.new ≡ is_sound self.old }
         ensures told { Self.told self.new ≡ Self.told self.old }
         ensures left { Self.left self.new ≡ Self.left self.old }
         ensures fixed { Self.fixed self.new ≡ Self.fixed self.old }
@@ -257,6 +269,7 @@ pub trait Rel: Shows {
         ensures saved { saved self.new ≡ saved self.old }
         ensures given { given self.new ≡ given self.old }
         ensures limit { limit self.new ≡ limit self.old }
+        ensures sound { is_sound self.new ≡ is_sound self.old }
         ensures told { Self.told self.new ≡ Self.told self.old }
         ensures left { Self.left self.new ≡ Self.left self.old }
         ensures fixed { Self.fixed self.new ≡ Self.fixed self.old }
@@ -274,6 +287,7 @@ pub trait Rel: Shows {
         ensures given { given self.new ≡ given self.old }
         ensures ready { is_ready self.new ≡ is_ready self.old }
         ensures limit { limit self.new ≡ limit self.old }
+        ensures sound { is_sound self.new ≡ is_sound self.old }
         ensures told { Self.told self.new ≡ Self.told self.old }
         ensures left { Self.left self.new ≡ Self.left self.old }
         ensures fixed { Self.fixed self.new ≡ Self.fixed self.old }
@@ -290,6 +304,8 @@ pub trait Rel: Shows {
         ensures given { given self.new ≡ given self.old }
         ensures ready { OnOk result (is_ready self.new ≡ is_ready self.old) }
         ensures limit { limit self.new ≡ limit self.old }
+        ensures sound { OnOk result (is_sound self.new ≡ is_sound self.old) }
+        ensures inner { 1 < length (saved self.old) → is_sound self.new ≡ is_sound self.old }
         ensures told { Self.told self.new ≡ Self.told self.old }
         ensures left { Self.left self.new ≡ Self.left self.old }
         ensures fixed { Self.fixed self.new ≡ Self.fixed self.old }
@@ -306,7 +322,9 @@ pub trait Rel: Shows {
         ensures ready { IsTrue (is_ready self.old) → IsTrue (is_ready self.new) }
         ensures unready { is_ready self.old ≡ false → 1 < length (saved self.old) →
             is_ready self.new ≡ false }
+        ensures last { length (saved self.old) ≡ 1 → is_ready self.new ≡ is_sound self.old }
         ensures limit { limit self.new ≡ limit self.old }
+        ensures sound { is_sound self.new ≡ is_sound self.old }
         ensures told { Self.told self.new ≡ Self.told self.old }
         ensures left { Self.left self.new ≡ Self.left self.old }
         ensures fixed { Self.fixed self.new ≡ Self.fixed self.old }
@@ -316,8 +334,11 @@ pub trait Rel: Shows {
 
     ghost formed: { (x : Self) → IsTrue (is_ready x) → IfSome (db x) IsWellFormed };
 
+    ghost usable: { (x : Self) → IsTrue (is_ready x) → IsTrue (is_sound x) };
+
     ghost told_schema: { (x : Self) → IfSome (db x) (λ d. schema x ≡ schema_of d) };
 
     ghost same_rel: { (x y : Self) → Self.same x y → IsSameRel (db x) (db y) (saved x) (saved y)
-        (schema x) (schema y) (given x) (given y) (is_ready x) (is_ready y) (limit x) (limit y) };
+        (schema x) (schema y) (given x) (given y) (is_ready x) (is_ready y) (is_sound x)
+        (is_sound y) (limit x) (limit y) };
 }

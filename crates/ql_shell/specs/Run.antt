@@ -104,7 +104,13 @@ EndsEarly asked input (Usage word) = asked ≡ command.Usage word
 EndsEarly asked input (Script TooLong) = IsTooLong asked input
 EndsEarly asked input Fault = Unit {0}
 EndsEarly asked input NoMemory = Unit {0}
-EndsEarly asked input _ = ⊥
+EndsEarly asked input (Script (BadByte _)) = ⊥
+EndsEarly asked input (Script (BadLiteral _)) = ⊥
+EndsEarly asked input (Script (Unclosed _)) = ⊥
+EndsEarly asked input (Script (Unexpected _)) = ⊥
+EndsEarly asked input (Script (TooNested _)) = ⊥
+EndsEarly asked input Done = ⊥
+EndsEarly asked input (Refused _ _) = ⊥
 
 -- how the run of a script ends that is not too long
 abbrev pub EndsScript : Status → Type 0
@@ -126,7 +132,13 @@ TakesInput (Usage _) before now = now ≡ before
 TakesInput (Script TooLong) before now = now ≡ option_map (drop (longest_script + 1)) before
 TakesInput Fault before now = (n : ℕ) × (now ≡ option_map (drop n) before)
 TakesInput NoMemory before now = (n : ℕ) × (now ≡ option_map (drop n) before)
-TakesInput _ before now = now ≡ option_map (λ _. []) before
+TakesInput (Script (BadByte _)) before now = now ≡ option_map (λ _. []) before
+TakesInput (Script (BadLiteral _)) before now = now ≡ option_map (λ _. []) before
+TakesInput (Script (Unclosed _)) before now = now ≡ option_map (λ _. []) before
+TakesInput (Script (Unexpected _)) before now = now ≡ option_map (λ _. []) before
+TakesInput (Script (TooNested _)) before now = now ≡ option_map (λ _. []) before
+TakesInput Done before now = now ≡ option_map (λ _. []) before
+TakesInput (Refused _ _) before now = now ≡ option_map (λ _. []) before
 
 -- so many bytes of standard input were read at most
 abbrev pub TakesAtMost : ℕ → Option (List ℕ) → Option (List ℕ) → Type 0
@@ -135,26 +147,42 @@ TakesAtMost most before now = (n : ℕ) × (n ≤ most) × (now ≡ option_map (
 -- standard input is read only where the script comes from there
 abbrev pub Takes : Command → Status → Option (List ℕ) → Option (List ℕ) → Type 0
 Takes command.Input status before now = TakesInput status before now
-Takes _ status before now = now ≡ before
+Takes (command.Usage _) status before now = now ≡ before
+Takes (command.Text _) status before now = now ≡ before
 
 -- all of standard input was read, where the script comes from there
 abbrev pub TakesAll : Command → Option (List ℕ) → Option (List ℕ) → Type 0
 TakesAll command.Input before now = now ≡ option_map (λ _. []) before
-TakesAll _ before now = now ≡ before
+TakesAll (command.Usage _) before now = now ≡ before
+TakesAll (command.Text _) before now = now ≡ before
 
 -- what may end the reading of standard input: the script is too long, a device's fault, or want of memory
 abbrev pub IsReadingFault : Status → Type 0
 IsReadingFault (Script TooLong) = Unit {0}
 IsReadingFault Fault = Unit {0}
 IsReadingFault NoMemory = Unit {0}
-IsReadingFault _ = ⊥
+IsReadingFault (Script (BadByte _)) = ⊥
+IsReadingFault (Script (BadLiteral _)) = ⊥
+IsReadingFault (Script (Unclosed _)) = ⊥
+IsReadingFault (Script (Unexpected _)) = ⊥
+IsReadingFault (Script (TooNested _)) = ⊥
+IsReadingFault (Usage _) = ⊥
+IsReadingFault Done = ⊥
+IsReadingFault (Refused _ _) = ⊥
 
 -- why a script that is not too long has no statements: its fault, or want of memory
 abbrev pub IsUnread : Status → Type 0
 IsUnread (Script TooLong) = ⊥
-IsUnread (Script _) = Unit {0}
+IsUnread (Script (BadByte _)) = Unit {0}
+IsUnread (Script (BadLiteral _)) = Unit {0}
+IsUnread (Script (Unclosed _)) = Unit {0}
+IsUnread (Script (Unexpected _)) = Unit {0}
+IsUnread (Script (TooNested _)) = Unit {0}
 IsUnread NoMemory = Unit {0}
-IsUnread _ = ⊥
+IsUnread (Usage _) = ⊥
+IsUnread Done = ⊥
+IsUnread (Refused _ _) = ⊥
+IsUnread Fault = ⊥
 
 -- what was read grew by what was taken from the rest of the script
 abbrev pub AddsPiece : List ℕ → List ℕ → Option (List ℕ) → Option (List ℕ) → Type 0

@@ -1,0 +1,142 @@
+//! A content in a data file that is changed through a log.
+ghost use Rattle.std.specs.Prelude.{◌≡◌, ◌+◌, ◌^◌, ◌≤◌, ◌∷◌, ◌++◌, length, take, true, IsSome, IfSome, option_map, refl};
+ghost use Rattle.std.proofs.Common.{◌∙◌};
+ghost use Rattle.std.proofs.Props.{props};
+ghost use Rattle.lldb_wal.specs.Kept.{IsAtRest};
+ghost use Rattle.lldb_wal.specs.Filer.{IsStored, data_of, stored_size, same_stored};
+
+use crate::commit::store_batch;
+use crate::spelling::spell_batch;
+use lldb_base::{BaseFiler, Batch, Trouble};
+use ql_edge::{DeviceFault, Shows, Volume, Which};
+use std::alloc::Global;
+
+/// The data file of a volume, its magic included. A `commit` goes through the log, so that a stop leaves the old content or the
+/// new one.
+#[derive(Drop)]
+pub struct WalFiler<V: Volume> {
+    alloc: Global,
+    volume: V,
+    magic: [u8; 16],
+    size: u64,
+    limit: u64,
+    moved: u64,
+    sound: bool,
+    ghost attached: { IsSome (V.attached volume) },
+    ghost size_within: { size ≤ 2 ^ 60 + 16 },
+    ghost limit_within: { limit ≤ 2 ^ 60 + 16 },
+    ghost stored: { sound ≡ true → IsStored magic size (V.files volume) } by { Prim.hlevel props },
+    ghost at_rest: { sound ≡ true → IsAtRest (V.files volume) (V.may_leave volume) } by { Prim.hlevel props },
+}
+
+impl<V: Volume> WalFiler<V> {
+    /// The two files, which hold what they held at the last commit.
+    pub fn into_below(self) -> V
+        ensures content { ⟦<WalFiler<V> as BaseFiler>⟧.content self ≡ option_map data_of
+            (V.files result) }
+        ensures at_rest { ⟦<WalFiler<V> as BaseFiler>⟧.is_sound self ≡ true → IsAtRest
+            (V.files result) (V.may_leave result) }
+        ensures attached { IsSome (V.attached result) }
+        ensures told { V.told result ≡ ⟦<WalFiler<V> as Shows>⟧.told self }
+        ensures left { V.left result ≡ ⟦<WalFiler<V> as Shows>⟧.left self }
+        ensures faults { V.faults result ≡ ⟦<WalFiler<V> as Shows>⟧.faults self }
+    {
+        self.volume
+    }
+}
+
+impl<V: Volume> Shows for WalFiler<V> {
+    ghost told = { λ f. V.told f.volume };
+
+    ghost faults = { λ f. V.faults f.volume };
+
+    ghost left = { λ f. V.left f.volume };
+
+    ghost same = { λ x y. V.same x.volume y.volume × (y.magic ≡ x.magic) × (y.size ≡ x.size)
+        × (y.limit ≡ x.limit) × (y.moved ≡ x.moved) × (y.sound ≡ x.sound) };
+
+    ghost fixed = { λ f. f.limit ∷ (f.magic ++ V.fixed f.volume) };
+
+    ghost same_reflexive = { λ x. (V.same_reflexive x.volume, refl, refl, refl, refl, refl) };
+
+    ghost same_transitive = { λ x y z p q. (
+      V.same_transitive x.volume y.volume z.volume p.0 q.0,
+      q.1 ∙ p.1,
+      q.2 ∙ p.2,
+      q.3 ∙ p.3,
+      q.4 ∙ p.4,
+      q.5 ∙ p.5,
+    ) };
+
+    fn show(&mut self, piece: &[u8]) -> Result<u64, DeviceFault> {
+        self.volume.show(piece)
+    }
+
+    fn warn(&mut self, piece: &[u8]) -> Result<u64, DeviceFault> {
+        self.volume.warn(piece)
+    }
+}
+
+impl<V: Volume> BaseFiler for WalFiler<V> {
+    ghost content = { λ f. option_map data_of (V.files f.volume) };
+
+    ghost size_of = { λ f. f.size };
+
+    ghost limit_of = { λ f. f.limit };
+
+    ghost is_sound = { λ f. f.sound };
+
+    ghost moved_of = { λ f. f.moved };
+
+    ghost floor = { 16 };
+
+    fn size(&self) -> u64 {
+        self.size
+    }
+
+    fn limit(&self) -> u64 {
+        self.limit
+    }
+
+    fn sound(&self) -> bool {
+        self.sound
+    }
+
+    fn moved(&self) -> u64 {
+        self.moved
+    }
+
+    fn read_at(&mut self, at: u64, out: &mut [u8]) -> Result<(), Trouble> {
+        self.volume.read_at(Which::Data, at, out)?;
+        self.moved = self.moved.saturating_add(out.len() as u64);
+        Ok(())
+    }
+
+    fn commit(&mut self, batch: &Batch, shift: u64) -> Result<(), Trouble> {
+        let need = shift + batch.length();
+        if need > self.size && need > self.limit {
+            return Err(Trouble::Full {
+                need,
+                limit: self.limit,
+            });
+        }
+        if batch.pieces().is_empty() && need == self.size {
+            return Ok(());
+        }
+        let spelled = spell_batch(self.alloc, batch, shift)?;
+        self.sound = false;
+        store_batch(&mut self.volume, batch, shift, spelled.as_slice())?;
+        self.moved = self.moved.saturating_add(batch.bytes());
+        self.size = need;
+        self.sound = true;
+        Ok(())
+    }
+
+    ghost sizes = { λ f. (f.size_within, f.limit_within) };
+
+    ghost told_size = { λ f sound. stored_size f.magic f.size (V.files f.volume) (f.stored sound) };
+
+    ghost same_filer = { λ x y same. same_stored (V.files x.volume) (V.files y.volume) x.size y.size
+        x.limit y.limit x.sound y.sound x.moved y.moved (V.same_volume x.volume y.volume same.0).1.held
+        same.2 same.3 same.5 same.4 };
+}
