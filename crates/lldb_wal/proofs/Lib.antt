@@ -1,5 +1,8 @@
+pub mod Arrived
 pub mod Completed
 pub mod Filed
+pub mod Found
+pub mod Created
 pub mod Fronts
 pub mod Heads
 pub mod Held
@@ -8,10 +11,14 @@ pub mod OldOrNew
 pub mod OneState
 pub mod ReadParts
 pub mod ReadWhole
+pub mod Opened
+pub mod Reread
+pub mod Settled
 pub mod Spelled
 pub mod Spells
 pub mod Spoiled
 pub mod Steps
+pub mod Tidied
 pub mod Times
 pub mod Windows
 pub mod Writing

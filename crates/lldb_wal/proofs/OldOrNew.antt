@@ -10,11 +10,12 @@ use Rattle.lldb_wal.specs.Fields.{longest}
 use Rattle.lldb_wal.specs.Kept.{kept, IsShut, Absorbs, Beside, IsLogged, IsCompleted, IsOpenWith, IsNew, IsOldOrNew, with_batch, with_log, stored}
 use Rattle.lldb_wal.specs.Laws.{IsOurs}
 use Rattle.lldb_wal.specs.Log.{log_magic, IsLog}
-use Rattle.lldb_wal.specs.Opening.{opened}
+use Rattle.lldb_wal.specs.Opening.{opened, beside}
 use Rattle.lldb_wal.specs.Spelling.{log_header, log_bytes, batch_bytes, pieces_bytes, piece_bytes, moved}
 use Rattle.lldb_wal.specs.declared.state.LogState.TheVariants.{Closed, Open}
 use Rattle.lldb_wal.proofs.Completed.{absorbs_applied, absorbed, same_front}
-use Rattle.lldb_wal.proofs.Held.{by_log}
+use Rattle.lldb_wal.proofs.Held.{by_log, by_state}
+use Rattle.lldb_wal.proofs.OneState.{one_state}
 use Rattle.lldb_wal.proofs.Spelled.{reads_back, same_effect}
 
 shut_closed : (size : ℕ) (log : List ℕ) → IsShut log → IsLog size log Closed
@@ -28,7 +29,7 @@ kept_shut magic f ours shut = ap (opened magic f.0) (by_log magic f.0 f.1 Closed
 
 pub kept_open : (magic : List ℕ) (f : Files) (shift : ℕ) (batch : Edits) → IsOurs magic f.0 → CanTake 16 shift (length f.0) batch → IsOpenWith shift batch f.1 → kept magic f ≡ Some (applied shift batch f.0)
 kept_open magic f shift batch ours can opens =
-    ap (opened magic f.0) (by_log magic f.0 f.1 (Open (moved shift batch)) ours (opens.reads (length f.0) can)) ∙ ap Some (same_effect shift batch f.0)
+    ap (opened magic f.0) (by_state magic f.0 f.1 ours ∙ ap beside (opens.reads (length f.0) can)) ∙ ap Some (same_effect shift batch f.0)
 
 -- a data file that can take a batch
 pub record CanHold (shift : ℕ) (batch : Edits) (bytes : List ℕ) : Type 0 where
@@ -75,7 +76,7 @@ long_batch shift batch = omega (arith, length-append (pieces_bytes shift batch.p
 pub opens_spelled : (shift : ℕ) (batch : Edits) → IsBatch batch → shift + batch.size ≤ longest → IsOpenWith shift batch (log_bytes 1 shift batch)
 opens_spelled shift batch made end = record {
   ungated = record { long = long_batch shift batch; magic = refl; gate = refl };
-  reads = λ size can. reads_back shift size batch made can end;
+  reads = λ size can. one_state size (log_bytes 1 shift batch) (Open (moved shift batch)) (reads_back shift size batch made can end);
 }
 
 pub spelled_opens : (shift : ℕ) (batch : Edits) (spelled : List ℕ) → IsBatch batch → shift + batch.size ≤ longest → spelled ≡ batch_bytes shift batch → IsOpenWith shift batch (log_header 1 ++ spelled)

@@ -1,6 +1,6 @@
 -- Moments of one call behind another.
-use Rattle.std.proofs.Common.{◌≡◌, ℕ, inl, inr, subst, arith}
-use Rattle.ql_edge.specs.Stops.{Adds, HasShown}
+use Rattle.std.proofs.Common.{◌≡◌, ℕ, Some, None, inl, inr, subst, arith}
+use Rattle.ql_edge.specs.Stops.{Adds, HasShown, IsBetween, IsSameBut}
 use Rattle.ql_edge.specs.Told.{Told}
 
 pub adds_weaker : {C : Type 0} {before now : ℕ} {past since : ℕ → ℕ → C → Type 0} {P : C → Type 0} {shown : ℕ → Type 0} {Q : C → Type 0} → Adds before now past since P shown → ((c : C) → P c → Q c) → Adds before now past since Q shown
@@ -23,3 +23,19 @@ adds_then first second same p q = record {
 
 pub adds_none : {C : Type 0} {now : ℕ} {past : ℕ → ℕ → C → Type 0} {P : C → Type 0} {shown : ℕ → Type 0} → Adds now now past past P shown
 adds_none = record { later = omega arith; keeps = λ t n c left. left; adds = λ t n c early left. inl left }
+
+between_same : (told : Told) (n : ℕ) → IsBetween told told n → HasShown told n
+between_same None n between = tt
+between_same (Some t) n between = omega (arith, between.least, between.most)
+
+-- a step that changes nothing but what is shown, where that is the same too
+pub adds_read : {H : Type 0} {C : Type 0} {held_old held_new : H} {left_old left_new : C → Type 0} {before now : ℕ} {past since : ℕ → ℕ → C → Type 0} {told_old told_new : Told}
+    → IsSameBut held_old held_new left_old left_new before now past since told_old told_new → told_new ≡ told_old → Adds before now past since left_new (HasShown told_old)
+adds_read {told_old = told_old} same told = record {
+  later = same.moments.later;
+  keeps = same.moments.keeps;
+  adds = λ t n c early left. elim (same.moments.adds t n c early left) [
+    | inl old ↦ inl old
+    | inr new ↦ inr (new.0, between_same told_old n (subst (λ (o : Told). IsBetween told_old o n) told new.1))
+  ];
+}

@@ -5,9 +5,10 @@ use Rattle.ql_edge.specs.Stops.{Leaves}
 use Rattle.lldb_base.specs.declared.batch.Piece.{Piece}
 use Rattle.lldb_base.specs.Batch.{Edits, CanTake, applied, written, byte_at}
 use Rattle.lldb_wal.specs.Fields.{header, longest}
-use Rattle.lldb_wal.specs.Log.{log_magic, IsUngated, IsLog}
+use Rattle.lldb_wal.specs.Log.{log_magic, IsUngated}
 use Rattle.lldb_wal.specs.Opening.{opening, opened}
 use Rattle.lldb_wal.specs.Spelling.{log_header, moved}
+use Rattle.lldb_wal.specs.States.{log_state}
 use Rattle.lldb_wal.specs.declared.state.LogState.TheVariants.{Open}
 
 -- the bytes of the data file as they are once two files are opened
@@ -65,7 +66,7 @@ stored shift batch f = (applied shift batch f.0, log_header 0)
 -- a log that is open with a batch, beside every data file that the batch can be written to
 pub record IsOpenWith (shift : ℕ) (batch : Edits) (log : List ℕ) : Type 0 where
   pub ungated : IsUngated log
-  pub reads : (size : ℕ) → CanTake header shift size batch → IsLog size log (Open (moved shift batch))
+  pub reads : (size : ℕ) → CanTake header shift size batch → log_state size log ≡ Open (moved shift batch)
 
 -- what is kept is the data file after a batch
 abbrev pub IsNew : ℕ → Edits → Files → Files → Type 0

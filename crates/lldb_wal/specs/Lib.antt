@@ -1,9 +1,11 @@
 pub mod Examples
+pub mod Fault
 pub mod Fields
 pub mod Filer
 pub mod Kept
 pub mod Laws
 pub mod Log
+pub mod Opened
 pub mod Opening
 pub mod Parts
 pub mod Spelling

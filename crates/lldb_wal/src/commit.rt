@@ -18,7 +18,7 @@ use ql_edge::{DeviceFault, Volume, Which};
 const GATE: u64 = 15;
 
 /// Writes a piece to a file, and makes the file stable.
-fn write_synced<V: Volume>(
+pub(crate) fn write_synced<V: Volume>(
     volume: &mut V,
     which: Which,
     at: u64,
@@ -76,6 +76,7 @@ fn write_pieces<V: Volume>(volume: &mut V, batch: &Batch, shift: u64) -> Result<
     requires durable { IsDurable (V.files volume.old) (V.may_leave volume.old) }
     ensures written { OnOk result (V.files volume.new
         ≡ option_map (with_pieces shift batch.now.pieces) (V.files volume.old)) }
+    ensures made { IsBatch batch.now }
     ensures stops { Leaves (V.may_leave volume.new)
         (Beside (V.files volume.old) (IsCompleted shift batch.now)) }
     ensures time { Adds (V.moment volume.old) (V.moment volume.new) (V.left_since volume.old)
@@ -102,6 +103,7 @@ fn apply_batch<V: Volume>(volume: &mut V, batch: &Batch, shift: u64) -> Result<(
     ensures applied { OnOk result (V.files volume.new
         ≡ option_map (with_batch shift batch.now) (V.files volume.old)) }
     ensures durable { OnOk result (IsDurable (V.files volume.new) (V.may_leave volume.new)) }
+    ensures made { IsBatch batch.now }
     ensures stops { Leaves (V.may_leave volume.new)
         (Beside (V.files volume.old) (IsCompleted shift batch.now)) }
     ensures time { Adds (V.moment volume.old) (V.moment volume.new) (V.left_since volume.old)
@@ -145,7 +147,6 @@ pub(crate) fn finish_batch<V: Volume>(
     shift: u64,
 ) -> Result<(), DeviceFault>
     requires attached { IsSome (V.attached volume.old) }
-    requires made { IsBatch batch.now }
     requires end { shift + batch.now.size ≤ 2 ^ 60 + 16 }
     requires takes { IfSome (V.files volume.old) (λ f. CanTake header shift (length f.0) batch.now) }
     requires long { IfSome (V.files volume.old) (λ f. header ≤ length f.0) }
@@ -155,6 +156,7 @@ pub(crate) fn finish_batch<V: Volume>(
     ensures stored { OnOk result (V.files volume.new
         ≡ option_map (stored shift batch.now) (V.files volume.old)) }
     ensures at_rest { OnOk result (IsAtRest (V.files volume.new) (V.may_leave volume.new)) }
+    ensures made { IsBatch batch.now }
     ensures stops { Leaves (V.may_leave volume.new)
         (Beside (V.files volume.old) (IsNew shift batch.now)) }
     ensures time { Adds (V.moment volume.old) (V.moment volume.new) (V.left_since volume.old)

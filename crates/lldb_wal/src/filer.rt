@@ -1,13 +1,19 @@
 //! A content in a data file that is changed through a log.
-ghost use Rattle.std.specs.Prelude.{◌≡◌, ◌+◌, ◌^◌, ◌≤◌, ◌∷◌, ◌++◌, length, take, true, IsSome, IfSome, option_map, refl};
+ghost use Rattle.std.specs.Prelude.{◌≡◌, ◌+◌, ◌^◌, ◌≤◌, ◌∷◌, ◌++◌, length, take, true, is_some, IsSome, IfSome, IfOk, IfErr, option_map, refl};
 ghost use Rattle.std.proofs.Common.{◌∙◌};
 ghost use Rattle.std.proofs.Props.{props};
-ghost use Rattle.lldb_wal.specs.Kept.{IsAtRest};
+ghost use Rattle.ql_edge.specs.Frame.{Stays};
+ghost use Rattle.ql_edge.specs.Stops.{Leaves};
+ghost use Rattle.lldb_wal.specs.Fault.{IsCausedBy, IsUnwritten, Refutes};
+ghost use Rattle.lldb_wal.specs.Kept.{Beside, IsAtRest, IsDurable, kept};
+ghost use Rattle.lldb_wal.specs.Opened.{IsSameKept, opened_data};
 ghost use Rattle.lldb_wal.specs.Filer.{IsStored, data_of, stored_size, same_stored};
 
+use crate::WalFault;
 use crate::commit::store_batch;
+use crate::settling::open_size;
 use crate::spelling::spell_batch;
-use lldb_base::{BaseFiler, Batch, Trouble};
+use lldb_base::{BaseFiler, Batch, Refused, Trouble};
 use ql_edge::{DeviceFault, Shows, Volume, Which};
 use std::alloc::Global;
 
@@ -30,6 +36,58 @@ pub struct WalFiler<V: Volume> {
 }
 
 impl<V: Volume> WalFiler<V> {
+    /// Creates, recovers or reads the database of the attached name. `magic` is how its data file begins, and `limit` is how long
+    /// that may become, in bytes.
+    ///
+    /// After `NotDatabase` and `BadLog` nothing was written.
+    pub fn open_on(
+        alloc: Global,
+        volume: V,
+        magic: [u8; 16],
+        limit: u64,
+    ) -> Result<WalFiler<V>, Refused<V, WalFault>>
+        requires attached { IsSome (V.attached volume) }
+        requires stable { IsDurable (V.files volume) (V.may_leave volume) }
+        requires limit { limit ≤ 2 ^ 60 + 16 }
+        ensures content { IfOk result (λ filer. ⟦<WalFiler<V> as BaseFiler>⟧.content filer
+            ≡ option_map (opened_data magic) (V.files volume)) }
+        ensures opens { IfOk result (λ _. IfSome (V.files volume)
+            (λ f. is_some (kept magic f) ≡ true)) }
+        ensures sound { IfOk result (λ filer. ⟦<WalFiler<V> as BaseFiler>⟧.is_sound filer ≡ true) }
+        ensures limit { IfOk result (λ filer. ⟦<WalFiler<V> as BaseFiler>⟧.limit_of filer ≡ limit) }
+        ensures moved { IfOk result (λ filer. ⟦<WalFiler<V> as BaseFiler>⟧.moved_of filer ≡ 0) }
+        ensures told { IfOk result (λ filer. ⟦<WalFiler<V> as Shows>⟧.told filer ≡ V.told volume) }
+        ensures left { IfOk result (λ filer. ⟦<WalFiler<V> as Shows>⟧.left filer ≡ V.left volume) }
+        ensures fixed { IfOk result (λ filer. ⟦<WalFiler<V> as Shows>⟧.fixed filer
+            ≡ limit ∷ (magic ++ V.fixed volume)) }
+        ensures faults { IfOk result (λ filer. ⟦<WalFiler<V> as Shows>⟧.faults filer ≡ V.faults volume) }
+        ensures refutes { IfErr result (λ r. Refutes magic (V.files volume) r.fault) }
+        ensures unwritten { IfErr result (λ r. IsUnwritten r.fault (V.same volume r.below)) }
+        ensures refused_stops { IfErr result (λ r. Leaves (V.may_leave r.below)
+            (Beside (V.files volume) (IsSameKept magic))) }
+        ensures refused_frame { IfErr result (λ r. Stays V.told V.left V.fixed V.attached volume
+            r.below) }
+        ensures cause { IfErr result (λ r. IsCausedBy r.fault (V.faults volume)
+            (V.faults r.below)) }
+    {
+        let mut volume = volume;
+        match open_size(alloc, &mut volume, &magic) {
+            Ok(size) => Ok(WalFiler {
+                alloc,
+                volume,
+                magic,
+                size,
+                limit,
+                moved: 0,
+                sound: true,
+            }),
+            Err(fault) => Err(Refused {
+                below: volume,
+                fault,
+            }),
+        }
+    }
+
     /// The two files, which hold what they held at the last commit.
     pub fn into_below(self) -> V
         ensures content { ⟦<WalFiler<V> as BaseFiler>⟧.content self ≡ option_map data_of

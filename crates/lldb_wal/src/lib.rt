@@ -2,6 +2,8 @@
 #![tactic(auto)]
 
 mod commit;
+mod creation;
+mod fault;
 mod fields;
 mod filer;
 mod files;
@@ -9,11 +11,14 @@ mod header;
 mod laws;
 mod read_log;
 mod reading;
+mod settling;
 mod spelling;
 mod state;
+mod tidying;
 mod two_files;
 mod window;
 
+pub use fault::WalFault;
 pub use filer::WalFiler;
 pub use laws::{log_examples, log_laws, spelling_laws};
 pub use state::{LogState, Opening};

@@ -15,9 +15,9 @@ use std::alloc::Global;
 
 /// A file's length and its first bytes.
 #[derive(Debug, Drop)]
-struct Front {
-    length: u64,
-    bytes: Vec<u8>,
+pub(crate) struct Front {
+    pub length: u64,
+    pub bytes: Vec<u8>,
 }
 
 /// So many zeros.
@@ -30,7 +30,7 @@ fn zeros(alloc: Global, count: u64) -> Result<Vec<u8>, NoMemory>
 }
 
 /// The length of a file, and so many of its first bytes, or all of a shorter one.
-fn read_front<V: Volume>(
+pub(crate) fn read_front<V: Volume>(
     alloc: Global,
     volume: &mut V,
     which: Which,
