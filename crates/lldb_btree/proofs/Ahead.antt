@@ -1,5 +1,5 @@
 -- The first pair ahead of a bound: where keys rise, it is under the first child whose greatest key is ahead.
-use Rattle.std.proofs.Common.{◌≡◌, ℕ, zero, suc, ◌+◌, ◌<◌, ◌≤◌, Bool, true, false, cond, not, ◌&&◌, ◌||◌, List, [], ◌∷◌, ◌++◌, length, map, Option, Some, None, refl, sym, ap, ◌∙◌, arith, append-nil, append_assoc}
+use Rattle.std.proofs.Common.{◌≡◌, ℕ, ◌<◌, Bool, true, false, cond, ◌||◌, List, [], ◌∷◌, ◌++◌, length, map, Option, Some, None, refl, sym, ap, ◌∙◌, arith, append-nil}
 use Rattle.std.specs.declared.cmp.Ordering.{Ordering}
 use Rattle.std.specs.declared.cmp.Ordering.TheVariants.{Less, Equal, Greater}
 use Rattle.std.specs.List.{AllByRecursion}
@@ -10,10 +10,9 @@ use Rattle.lldb_btree.specs.declared.bound.Bound.{Bound}
 use Rattle.lldb_btree.specs.declared.bound.Bound.TheVariants.{Start, From, After}
 use Rattle.lldb_btree.specs.declared.node.Pair.{Pair}
 use Rattle.lldb_btree.specs.Bounds.{is_ahead, is_empty, from_first}
-use Rattle.lldb_btree.specs.Nodes.{Entry, child_entry, pair_entry}
+use Rattle.lldb_btree.specs.Nodes.{Entry, child_entry}
 use Rattle.lldb_btree.specs.Pairs.{order, Rises, keys_of, first}
 use Rattle.lldb_btree.specs.Trees.{Part, greatest, child_of, pairs_of}
-use Rattle.lldb_btree.proofs.Standing.{all_left, all_right}
 
 pub turned : (x y : List ℕ) → order x y ≡ Less → order y x ≡ Greater
 turned x y e = nat_list_cmp_total.antisymm y x ∙ ap ordering_reverse e

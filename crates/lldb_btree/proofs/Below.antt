@@ -1,5 +1,5 @@
 -- One level of a set, by what was read of its node.
-use Rattle.std.proofs.Common.{◌≡◌, ◌⊎◌, ⊎_elim, ℕ, zero, suc, ◌+◌, ◌-◌, ◌^◌, ◌<◌, ◌≤◌, Bool, true, false, List, [], ◌∷◌, ◌++◌, length, map, Option, Some, Result, Ok, Err, IfOk, refl, sym, ap, ap₂, ◌∙◌, arith, length-append, append-nil}
+use Rattle.std.proofs.Common.{◌≡◌, ⊎_elim, ℕ, zero, suc, ◌+◌, ◌-◌, ◌<◌, ◌≤◌, Bool, true, false, List, [], ◌∷◌, ◌++◌, length, map, Option, Some, Result, Ok, Err, IfOk, refl, sym, ap, ap₂, ◌∙◌, arith, length-append, append-nil}
 use Rattle.std.specs.List.{AllByRecursion}
 use Rattle.std.specs.Int.{to_be_bytes, w64}
 use Rattle.std.proofs.lemmas.List.{map-append, append_cancel_right}
@@ -12,7 +12,7 @@ use Rattle.lldb_btree.specs.declared.node.Pair.{Pair}
 use Rattle.lldb_btree.specs.Bounds.{is_ahead}
 use Rattle.lldb_btree.specs.Changes.{Becomes, CanEdit, IsEdited, CanStore, IsStored}
 use Rattle.lldb_btree.specs.Footprints.{times}
-use Rattle.lldb_btree.specs.Nodes.{Entry, is_leaf, entries, count, body, spelling, pair_entry, child_entry, FitsChild}
+use Rattle.lldb_btree.specs.Nodes.{Entry, is_leaf, entries, body, spelling, pair_entry, child_entry, FitsChild}
 use Rattle.lldb_btree.specs.Pairs.{FitsPair, Rises, keys_of, insert}
 use Rattle.lldb_btree.specs.Reading.{mark}
 use Rattle.lldb_btree.specs.Splicing.{AreNode, IsWay}

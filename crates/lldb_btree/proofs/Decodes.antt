@@ -1,5 +1,5 @@
 -- Reading pairs and children one after the other.
-use Rattle.std.proofs.Common.{◌≡◌, ℕ, zero, suc, ◌+◌, ◌-◌, ◌^◌, ◌<◌, ◌≤◌, Bool, true, false, List, [], ◌∷◌, ◌++◌, length, map, Option, Some, None, Result, Ok, Err, OnOk, refl, sym, ap, ◌∙◌, arith, append_assoc, w64}
+use Rattle.std.proofs.Common.{◌≡◌, ℕ, ◌-◌, ◌^◌, ◌<◌, ◌≤◌, true, false, List, [], ◌∷◌, ◌++◌, length, map, Option, Some, None, Result, Ok, Err, OnOk, refl, sym, ap, ◌∙◌, arith, append_assoc, w64}
 use Rattle.std.specs.Int.{to_be_bytes}
 use Rattle.std.specs.List.{AllByRecursion}
 use Rattle.std.specs.declared.cmp.Ordering.TheVariants.{Less}
@@ -9,8 +9,8 @@ use Rattle.lldb_btree.specs.declared.node.NodeFault.{NodeFault}
 use Rattle.lldb_btree.specs.declared.node.NodeFault.TheVariants as fault
 use Rattle.lldb_btree.specs.declared.node.Pair.{Pair}
 use Rattle.lldb_btree.specs.Decoding.{RisesFrom, ArePairs, AreChildren, Adds, BadOnly, MayFollow, child_keys}
-use Rattle.lldb_btree.specs.Nodes.{Entry, entry_bytes, body, pair_entry, child_entry, FitsChild, IsTail, IsEntry}
-use Rattle.lldb_btree.specs.Pairs.{order, Rises, keys_of, FitsPair}
+use Rattle.lldb_btree.specs.Nodes.{Entry, entry_bytes, body, pair_entry, child_entry, IsTail, IsEntry}
+use Rattle.lldb_btree.specs.Pairs.{order, keys_of}
 use Rattle.lldb_btree.proofs.Spelling.{pair_fits, child_fits}
 use Rattle.lldb_btree.proofs.Standing.{all_weaker}
 

@@ -1,8 +1,8 @@
 -- Edits one after the other, and an edit as one of a larger part.
-use Rattle.std.proofs.Common.{◌≡◌, ◌⊎◌, ⊎_elim, ℕ, zero, suc, ◌+◌, ◌<◌, ◌≤◌, Bool, true, false, cond, eqb, List, [], ◌∷◌, ◌++◌, length, Option, Some, None, refl, sym, ap, ◌∙◌, arith}
+use Rattle.std.proofs.Common.{◌≡◌, ⊎_elim, ℕ, zero, suc, ◌+◌, ◌<◌, ◌≤◌, Bool, cond, List, [], ◌∷◌, ◌++◌, Option, None, refl, sym, ap, ◌∙◌, arith}
 use Rattle.std.proofs.lemmas.Bool.{cases_eq}
 use Rattle.lldb_base.specs.Contents.{Contents, content_of, with_content}
-use Rattle.lldb_btree.specs.Footprints.{times, unless, beside, Edits}
+use Rattle.lldb_btree.specs.Footprints.{times, unless, Edits}
 use Rattle.lldb_btree.proofs.Puts.{put_apart, eqb_self, eqb_apart}
 
 -- each handle of a footprint is live

@@ -1,5 +1,5 @@
 -- A set from the root of a tree.
-use Rattle.std.proofs.Common.{◌≡◌, ℕ, suc, ◌+◌, ◌<◌, ◌≤◌, List, length, Option, Some, Result, Ok, Err, OnOk, sym, ap, ◌∙◌, arith}
+use Rattle.std.proofs.Common.{◌≡◌, ℕ, ◌+◌, ◌≤◌, List, length, Option, Some, Result, OnOk, ◌∙◌, arith}
 use Rattle.lldb_base.specs.Contents.{Contents}
 use Rattle.lldb_base.specs.declared.trouble.Trouble.{Trouble}
 use Rattle.lldb_btree.specs.declared.node.Pair.{Pair}

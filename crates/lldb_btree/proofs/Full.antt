@@ -1,7 +1,7 @@
 -- What a heap that is full says of a node.
-use Rattle.std.proofs.Common.{◌≡◌, ℕ, ◌+◌, ◌*◌, ◌/◌, ◌<◌, ◌≤◌, Bool, true, false, nat_le, nat_eq, if◌then◌else◌, List, length, Option, Some, Result, Ok, Err, sym, ap, ◌∙◌, arith}
-use Rattle.lldb_base.specs.Contents.{Contents, atoms_for}
-use Rattle.lldb_base.specs.Heaps.{IsFull, IsGrown, MayBeDead}
+use Rattle.std.proofs.Common.{◌≡◌, ℕ, ◌+◌, ◌*◌, ◌/◌, ◌≤◌, Bool, true, false, nat_le, nat_eq, if◌then◌else◌, Option, ◌∙◌, arith}
+use Rattle.lldb_base.specs.Contents.{atoms_for}
+use Rattle.lldb_base.specs.Heaps.{IsFull}
 use Rattle.lldb_btree.specs.Splicing.{IsFullFor}
 
 atoms_step : (len : ℕ) → len ≤ 35810 → (b : Bool) → 16 * (if b then (len + 1) / 16 + 1 else (len + 3) / 16 + 1) ≤ 35824

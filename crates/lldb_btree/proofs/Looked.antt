@@ -1,12 +1,11 @@
 -- What a search in a node's bytes finds, put together of its steps.
-use Rattle.std.proofs.Common.{◌≡◌, ◌⊎◌, ⊎_elim, ℕ, zero, suc, ◌+◌, ◌^◌, ◌<◌, ◌≤◌, Bool, true, false, List, [], ◌∷◌, ◌++◌, length, map, Option, Some, None, Result, Ok, Err, refl, sym, ap, ◌∙◌, arith}
+use Rattle.std.proofs.Common.{◌≡◌, ⊎_elim, ℕ, suc, ◌<◌, Bool, true, false, List, [], ◌∷◌, ◌++◌, length, map, Option, Some, None, Result, Ok, refl, sym, ap, ◌∙◌, arith}
 use Rattle.std.specs.List.{AllByRecursion}
 use Rattle.lldb_btree.specs.declared.look.Found.{Found}
 use Rattle.lldb_btree.specs.declared.look.Found.TheVariants.{Down, Here}
 use Rattle.lldb_btree.specs.declared.node.Child.{Child}
 use Rattle.lldb_btree.specs.declared.node.NodeFault.{NodeFault}
 use Rattle.lldb_btree.specs.declared.node.Pair.{Pair}
-use Rattle.lldb_btree.specs.Bounds.{from_first}
 use Rattle.lldb_btree.specs.Nodes.{Entry, entry_bytes, body, pair_entry, child_entry, FitsChild, IsEntry}
 use Rattle.lldb_btree.specs.Pairs.{FitsPair, first}
 use Rattle.lldb_btree.specs.Reading.{IsSought, Reads, LeadsTo}

@@ -1,5 +1,5 @@
 -- An empty tree that was made.
-use Rattle.std.proofs.Common.{◌≡◌, ℕ, ◌+◌, ◌^◌, ◌<◌, ◌≤◌, List, [], ◌∷◌, Option, Some, None, IfSome, refl, arith}
+use Rattle.std.proofs.Common.{◌≡◌, ℕ, ◌^◌, ◌<◌, [], ◌∷◌, Option, Some, None, IfSome, refl, arith}
 use Rattle.lldb_base.specs.Contents.{Contents, content_of, with_content}
 use Rattle.lldb_btree.specs.declared.node.Node.TheVariants.{Leaf}
 use Rattle.lldb_btree.specs.Trees.{HoldsTree}

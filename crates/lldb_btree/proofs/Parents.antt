@@ -1,12 +1,12 @@
 -- Some children of a node have become others, and what this makes of the node.
-use Rattle.std.proofs.Common.{◌≡◌, ℕ, zero, suc, ◌+◌, ◌<◌, ◌≤◌, List, [], ◌∷◌, ◌++◌, length, map, None, refl, sym, ap, ◌∙◌, arith, append_assoc, length-append}
+use Rattle.std.proofs.Common.{◌≡◌, ℕ, zero, suc, ◌+◌, ◌<◌, ◌≤◌, List, [], ◌∷◌, ◌++◌, length, map, refl, sym, ap, ◌∙◌, arith, append_assoc, length-append}
 use Rattle.std.specs.List.{AllByRecursion}
-use Rattle.lldb_base.specs.Contents.{Contents, content_of}
+use Rattle.lldb_base.specs.Contents.{Contents}
 use Rattle.lldb_btree.specs.declared.node.Child.{Child}
 use Rattle.lldb_btree.specs.declared.node.Node.TheVariants.{Inner}
 use Rattle.lldb_btree.specs.declared.node.Pair.{Pair}
 use Rattle.lldb_btree.specs.Changes.{Becomes, Lifts}
-use Rattle.lldb_btree.specs.Footprints.{times, Edits}
+use Rattle.lldb_btree.specs.Footprints.{times}
 use Rattle.lldb_btree.specs.Trees.{Part, child_of, pairs_of, footprint_of, IsNode, IsOver}
 use Rattle.lldb_btree.proofs.Edited.{Live, times_append, times_here, times_self, edits_in, edit_stays}
 use Rattle.lldb_btree.proofs.Moved.{Agree, all_live, all_moved}

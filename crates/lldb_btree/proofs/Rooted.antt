@@ -1,25 +1,23 @@
 -- What stands after the bytes of a node were stored below another, or as a root.
-use Rattle.std.proofs.Common.{◌≡◌, ◌⊎◌, ⊎_elim, ℕ, zero, suc, ◌+◌, ◌-◌, ◌*◌, ◌/◌, ◌^◌, ◌<◌, ◌≤◌, Bool, false, List, [], ◌∷◌, ◌++◌, length, map, take, drop, Option, Some, None, IfSome, refl, sym, ap, ap₂, ◌∙◌, arith, length-append, append-nil}
-use Rattle.std.specs.Int.{to_be_bytes, w64}
+use Rattle.std.proofs.Common.{◌≡◌, ⊎_elim, ℕ, suc, ◌+◌, ◌*◌, ◌/◌, ◌^◌, ◌<◌, ◌≤◌, Bool, false, List, [], ◌∷◌, ◌++◌, length, take, drop, Option, Some, None, IfSome, refl, sym, ap, ◌∙◌, arith, length-append, append-nil}
 use Rattle.std.specs.List.{AllByRecursion}
 use Rattle.std.proofs.lemmas.Bool.{cases_eq}
 use Rattle.lldb_base.specs.Contents.{Contents, content_of, with_content}
 use Rattle.lldb_base.specs.Heaps.{MayBeDead}
-use Rattle.lldb_btree.specs.declared.node.Child.{Child}
 use Rattle.lldb_btree.specs.declared.node.Node.{Node}
 use Rattle.lldb_btree.specs.declared.node.Node.TheVariants.{Inner}
 use Rattle.lldb_btree.specs.declared.node.Pair.{Pair}
 use Rattle.lldb_btree.specs.Changes.{CanStore, IsStored, CanRoot}
-use Rattle.lldb_btree.specs.Footprints.{times, unless, beside, Edits}
+use Rattle.lldb_btree.specs.Footprints.{times, unless, Edits}
 use Rattle.lldb_btree.specs.Nodes.{Entry, IsEntry, count, is_leaf, entries, spelling, entry_bytes, body, child_entry, Fits}
 use Rattle.lldb_btree.specs.Pairs.{FitsPair, IsSorted}
 use Rattle.lldb_btree.specs.Reading.{mark}
 use Rattle.lldb_btree.specs.Splicing.{AreNode, AreNoNode, entry_of}
-use Rattle.lldb_btree.specs.Trees.{Part, child_of, pairs_of, footprint_of, IsNode, IsOver, IsTree, HoldsTree, least_of}
+use Rattle.lldb_btree.specs.Trees.{child_of, IsNode, IsOver, HoldsTree, least_of}
 use Rattle.lldb_btree.proofs.Cuts.{Cut, over_cut}
-use Rattle.lldb_btree.proofs.Edited.{Live, times_append, times_here, times_self, times_there, edits_then, edits_in, edit_put}
+use Rattle.lldb_btree.proofs.Edited.{Live, times_append, times_here, times_there, edits_then, edits_in, edit_put}
 use Rattle.lldb_btree.proofs.Lengths.{are_node, entries_count, spelled_by, spelled_short, body_long}
-use Rattle.lldb_btree.proofs.Moved.{Agree, over_live, over_moved, node_moved}
+use Rattle.lldb_btree.proofs.Moved.{over_live, over_moved, node_moved}
 use Rattle.lldb_btree.proofs.Puts.{put_same, put_apart, edit_create}
 use Rattle.lldb_btree.proofs.Standing.{all_left, all_right, over_fits, greatest_fits}
 use Rattle.lldb_btree.proofs.Stored.{part_at, part_entry, put_agrees, node_put, put_live, dead_apart, apart_once, stored_one, stored_two}

@@ -1,5 +1,5 @@
 -- A look-up from the root of a tree.
-use Rattle.std.proofs.Common.{◌≡◌, ℕ, suc, ◌+◌, ◌<◌, ◌≤◌, Bool, List, Option, Some, None, Result, Ok, Err, IfOk, sym, ap, ◌∙◌, arith}
+use Rattle.std.proofs.Common.{◌≡◌, ℕ, ◌+◌, ◌≤◌, Bool, List, Option, Result, Ok, Err, IfOk, sym, ap, ◌∙◌, arith}
 use Rattle.lldb_base.specs.Contents.{Contents}
 use Rattle.lldb_base.specs.declared.trouble.Trouble.{Trouble}
 use Rattle.lldb_btree.specs.declared.bound.Bound.TheVariants.{From}

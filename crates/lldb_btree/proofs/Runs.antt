@@ -1,5 +1,5 @@
 -- The child where a search in an inner node goes on, with the parts before it and behind it.
-use Rattle.std.proofs.Common.{◌≡◌, ◌⊎◌, inl, inr, ℕ, Bool, true, false, cond, not, ◌&&◌, ◌||◌, List, [], ◌∷◌, ◌++◌, map, refl, sym, ap, ◌∙◌}
+use Rattle.std.proofs.Common.{◌≡◌, ◌⊎◌, inl, inr, ℕ, Bool, true, false, cond, not, ◌&&◌, ◌||◌, List, [], ◌∷◌, ◌++◌, map, refl, sym, ap}
 use Rattle.std.specs.List.{AllByRecursion}
 use Rattle.lldb_btree.specs.Bounds.{is_empty, from_first}
 use Rattle.lldb_btree.specs.Nodes.{Entry, child_entry}

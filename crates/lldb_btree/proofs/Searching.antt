@@ -1,9 +1,8 @@
 -- A search among the entries of a node, one entry at a time.
-use Rattle.std.proofs.Common.{◌≡◌, ℕ, zero, suc, ◌+◌, ◌-◌, ◌^◌, ◌<◌, ◌≤◌, ◌==◌, eqb, Bool, true, false, cond, not, ◌&&◌, ◌||◌, List, [], ◌∷◌, ◌++◌, length, map, Option, Some, None, IsSomeAnd, IfSome, refl, sym, ap, ◌∙◌, arith}
-use Rattle.std.specs.List.{AllByRecursion}
+use Rattle.std.proofs.Common.{◌≡◌, ℕ, suc, ◌==◌, Bool, true, false, cond, not, ◌&&◌, ◌||◌, List, [], ◌∷◌, length, refl, sym, ap, ◌∙◌, arith}
 use Rattle.std.proofs.lemmas.Bool.Decides.{nat_tests}
 use Rattle.lldb_btree.specs.Bounds.{is_empty, from_first}
-use Rattle.lldb_btree.specs.Nodes.{Entry, IsEntry, entry_bytes, body}
+use Rattle.lldb_btree.specs.Nodes.{Entry, body}
 use Rattle.lldb_btree.specs.Reading.{IsSought}
 
 pub sought_none : (leaf : Bool) (test : List ℕ → Bool) (es : List Entry) (bytes : List ℕ) (left : ℕ) → left ≡ 0 → length es ≡ left → bytes ≡ body es → IsSought leaf test es bytes 0

@@ -1,15 +1,13 @@
 -- A pair that is set in a leaf, and below an inner node.
-use Rattle.std.proofs.Common.{◌≡◌, ◌⊎◌, ⊎_elim, ℕ, zero, suc, ◌+◌, ◌-◌, ◌<◌, ◌≤◌, true, false, List, [], ◌∷◌, ◌++◌, length, map, Option, Some, None, refl, sym, ap, ◌∙◌, arith, length-append, append-nil, append_assoc}
+use Rattle.std.proofs.Common.{◌≡◌, ⊎_elim, ℕ, zero, suc, ◌+◌, ◌≤◌, List, [], ◌∷◌, ◌++◌, length, map, Option, Some, None, refl, sym, ap, ◌∙◌, arith, length-append, append-nil, append_assoc}
 use Rattle.std.specs.List.{AllByRecursion}
 use Rattle.lldb_base.specs.Contents.{Contents, content_of}
-use Rattle.lldb_btree.specs.declared.bound.Bound.TheVariants.{From}
 use Rattle.lldb_btree.specs.declared.node.Child.{Child}
 use Rattle.lldb_btree.specs.declared.node.Node.{Node}
 use Rattle.lldb_btree.specs.declared.node.Node.TheVariants.{Leaf, Inner}
 use Rattle.lldb_btree.specs.declared.node.Pair.{Pair}
-use Rattle.lldb_btree.specs.Bounds.{is_ahead}
-use Rattle.lldb_btree.specs.Changes.{Becomes, Lifts, CanEdit, IsEdited, CanStore, IsStored}
-use Rattle.lldb_btree.specs.Footprints.{times, Edits}
+use Rattle.lldb_btree.specs.Changes.{Becomes, Lifts, CanEdit, IsEdited, CanStore}
+use Rattle.lldb_btree.specs.Footprints.{times}
 use Rattle.lldb_btree.specs.Nodes.{Entry, count, spelling, body, child_entry}
 use Rattle.lldb_btree.specs.Pairs.{FitsPair, insert}
 use Rattle.lldb_btree.specs.Trees.{Part, child_of, pairs_of, footprint_of, IsNode, IsOver}

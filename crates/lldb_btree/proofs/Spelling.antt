@@ -1,14 +1,13 @@
 -- A node has one spelling.
-use Rattle.std.proofs.Common.{◌≡◌, ℕ, suc, ◌+◌, ◌^◌, ◌<◌, ◌≤◌, Bool, true, false, List, [], ◌∷◌, ◌++◌, length, map, sym, ap, ◌∙◌, refl, arith, append_assoc, w16, w64}
+use Rattle.std.proofs.Common.{◌≡◌, ℕ, suc, ◌^◌, ◌<◌, Bool, true, false, List, [], ◌∷◌, ◌++◌, length, map, sym, ap, ◌∙◌, refl, arith, append_assoc, w16, w64}
 use Rattle.std.specs.List.{AllByRecursion}
 use Rattle.std.specs.Int.{to_be_bytes, from_be_bytes}
 use Rattle.std.proofs.lemmas.Nat.{from_be_bytes-to_be_bytes_2, from_be_bytes-to_be_bytes_8}
 use Rattle.lldb_btree.specs.declared.node.Child.{Child}
-use Rattle.lldb_btree.specs.declared.node.Node.{Node}
 use Rattle.lldb_btree.specs.declared.node.Node.TheVariants.{Leaf, Inner}
 use Rattle.lldb_btree.specs.declared.node.Pair.{Pair}
 use Rattle.lldb_btree.specs.Laws.{OneSpelling}
-use Rattle.lldb_btree.specs.Nodes.{Entry, entry_bytes, body, pair_entry, child_entry, spelling, FitsChild, IsTail, IsEntry, Fits}
+use Rattle.lldb_btree.specs.Nodes.{Entry, entry_bytes, body, pair_entry, child_entry, FitsChild, IsTail, IsEntry}
 use Rattle.lldb_btree.specs.Pairs.{FitsPair}
 
 -- two lists that begin with fronts of one length are equal front by front

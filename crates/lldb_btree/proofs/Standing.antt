@@ -1,5 +1,5 @@
 -- Nodes that stand fit, and lists whose members all do.
-use Rattle.std.proofs.Common.{◌≡◌, ℕ, zero, suc, ◌+◌, ◌^◌, ◌<◌, ◌≤◌, List, [], ◌∷◌, ◌++◌, length, map, refl, ap, arith}
+use Rattle.std.proofs.Common.{◌≡◌, ℕ, zero, suc, ◌≤◌, List, [], ◌∷◌, ◌++◌, length, map, refl, ap, arith}
 use Rattle.std.specs.List.{AllByRecursion}
 use Rattle.lldb_base.specs.Contents.{Contents}
 use Rattle.lldb_btree.specs.declared.node.Node.{Node}

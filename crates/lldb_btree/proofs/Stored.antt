@@ -1,16 +1,15 @@
 -- What stands after a node in memory was stored, as one or as two.
-use Rattle.std.proofs.Common.{◌≡◌, ⊎_elim, ℕ, zero, suc, ◌+◌, ◌-◌, ◌^◌, ◌<◌, ◌≤◌, List, [], ◌∷◌, ◌++◌, length, map, Option, Some, None, refl, sym, ap, ◌∙◌, arith, length-append, append-nil}
+use Rattle.std.proofs.Common.{◌≡◌, ⊎_elim, ℕ, zero, suc, ◌+◌, ◌-◌, ◌^◌, ◌<◌, ◌≤◌, List, [], ◌∷◌, ◌++◌, length, Option, Some, None, refl, sym, ap, ◌∙◌, arith, length-append, append-nil}
 use Rattle.std.proofs.lemmas.Bool.{cases_eq}
-use Rattle.std.specs.List.{AllByRecursion}
 use Rattle.lldb_base.specs.Contents.{Contents, content_of, with_content}
 use Rattle.lldb_btree.specs.declared.node.Node.{Node}
 use Rattle.lldb_btree.specs.declared.node.Pair.{Pair}
 use Rattle.lldb_btree.specs.Changes.{CanStore, IsStored}
-use Rattle.lldb_btree.specs.Footprints.{times, Edits}
+use Rattle.lldb_btree.specs.Footprints.{times}
 use Rattle.lldb_btree.specs.Nodes.{Entry, count, entries, spelling, entry_bytes, body, child_entry}
 use Rattle.std.specs.Int.{w64, to_be_bytes}
 use Rattle.lldb_btree.specs.Splicing.{entry_of}
-use Rattle.lldb_btree.specs.Trees.{Part, child_of, footprint_of, IsNode, IsOver}
+use Rattle.lldb_btree.specs.Trees.{Part, child_of, IsNode, IsOver}
 use Rattle.lldb_btree.proofs.Edited.{Live, times_append, times_here, times_self, times_there, edits_then, edits_in, edit_put}
 use Rattle.lldb_btree.proofs.Moved.{Agree, over_live, over_moved, node_moved}
 use Rattle.lldb_btree.proofs.Puts.{put_same, put_apart, edit_create}

@@ -1,24 +1,22 @@
 -- A way down a tree, a level at a time.
-use Rattle.std.proofs.Common.{◌≡◌, ℕ, zero, suc, ◌+◌, ◌-◌, ◌*◌, ◌^◌, ◌<◌, ◌≤◌, Bool, true, false, List, [], ◌∷◌, ◌++◌, length, map, Option, Some, None, IfSome, Result, Ok, Err, refl, sym, ap, ◌∙◌, arith}
+use Rattle.std.proofs.Common.{◌≡◌, ℕ, suc, ◌-◌, ◌*◌, ◌^◌, ◌<◌, ◌≤◌, Bool, false, List, [], ◌∷◌, length, map, Option, Some, None, IfSome, refl, sym, ap, ◌∙◌, arith}
 use Rattle.std.specs.Int.{to_be_bytes, w64}
 use Rattle.std.specs.List.{AllByRecursion}
 use Rattle.lldb_base.specs.Contents.{Contents, content_of}
 use Rattle.lldb_base.specs.Heaps.{MayBeDead}
 use Rattle.lldb_btree.specs.declared.node.Child.{Child}
-use Rattle.lldb_btree.specs.declared.node.Node.{Node}
-use Rattle.lldb_btree.specs.declared.node.Node.TheVariants.{Leaf, Inner}
 use Rattle.lldb_btree.specs.declared.node.Pair.{Pair}
 use Rattle.lldb_btree.specs.Bounds.{from_first}
 use Rattle.lldb_btree.specs.Nodes.{Entry, child_entry, spelling, count, FitsChild}
-use Rattle.lldb_btree.specs.Pairs.{IsSorted, FitsPair, first, Rises, keys_of}
-use Rattle.lldb_btree.specs.Trees.{Part, child_of, pairs_of, IsNode, IsOver, IsTree, IsTold, CanWalk, least_of}
+use Rattle.lldb_btree.specs.Pairs.{FitsPair, first, Rises, keys_of}
+use Rattle.lldb_btree.specs.Trees.{Part, child_of, pairs_of, IsNode, IsOver, IsTold, CanWalk, least_of}
 use Rattle.std.proofs.Math.Nat.{one-le-pow}
 use Rattle.std.proofs.lemmas.Nat.{mul-le}
 use Rattle.lldb_btree.proofs.Ahead.{Falls, Leads, led}
 use Rattle.lldb_btree.proofs.Levels.{over_size, tree_low}
 use Rattle.lldb_btree.proofs.OneTree.{least_some}
 use Rattle.lldb_btree.proofs.Spelling.{handle_told}
-use Rattle.lldb_btree.proofs.Standing.{all_left, all_right, parts_fit, parts_count}
+use Rattle.lldb_btree.proofs.Standing.{all_left, all_right, parts_fit}
 
 -- the part below an inner node where a look-up goes on
 pub record Descent (told : Option Contents) (m : Contents) (d : ℕ) (test : List ℕ → Bool) (pairs : List Pair) (handle room : ℕ) : Type 0 where

@@ -3,7 +3,7 @@ use Rattle.std.specs.Prelude.{◌≡◌, ℕ, ◌-◌, ◌^◌, ◌≤◌, max, 
 use Rattle.lldb_base.specs.Contents.{Contents}
 use Rattle.lldb_btree.specs.declared.node.Node.{Node}
 use Rattle.lldb_btree.specs.declared.node.Pair.{Pair}
-use Rattle.lldb_btree.specs.Nodes.{spelling, count, Fits}
+use Rattle.lldb_btree.specs.Nodes.{spelling, Fits}
 use Rattle.lldb_btree.specs.Trees.{IsTree}
 
 -- two nodes that fit and have the same bytes are the same

@@ -1,13 +1,12 @@
 -- A tree in a heap: sorted pairs under a handle, spread over nodes.
-use Rattle.std.specs.Prelude.{◌≡◌, ℕ, zero, suc, ◌+◌, ◌-◌, ◌^◌, ◌<◌, ◌≤◌, Bool, true, false, List, [], ◌∷◌, ◌++◌, length, map, Option, Some, None, Result, Ok, Err}
+use Rattle.std.specs.Prelude.{◌≡◌, ℕ, zero, suc, ◌+◌, ◌^◌, ◌<◌, ◌≤◌, List, [], ◌∷◌, length, map, Option, Some}
 use Rattle.std.specs.List.{AllByRecursion, flat_map}
 use Rattle.lldb_base.specs.Contents.{Contents, content_of}
-use Rattle.lldb_base.specs.declared.trouble.Trouble.{Trouble}
 use Rattle.lldb_btree.specs.declared.node.Child.{Child}
 use Rattle.lldb_btree.specs.declared.node.Node.{Node}
 use Rattle.lldb_btree.specs.declared.node.Node.TheVariants.{Leaf, Inner}
 use Rattle.lldb_btree.specs.declared.node.Pair.{Pair}
-use Rattle.lldb_btree.specs.Pairs.{IsSorted, keys_of}
+use Rattle.lldb_btree.specs.Pairs.{IsSorted}
 use Rattle.lldb_btree.specs.Nodes.{spelling, count}
 use Rattle.lldb_btree.specs.Footprints.{times, Edits}
 

@@ -31,6 +31,16 @@ fn mark_of(leaf: bool) -> u8
     if leaf { 0 } else { 1 }
 }
 
+/// The two bytes that a node with so many entries begins with, and room for so many bytes behind them.
+fn head(alloc: Global, leaf: bool, count: usize, room: usize) -> Result<Bytes, NoMemory>
+    requires { count < 256 }
+    ensures { IfOk result (λ head. head ≡ mark leaf ∷ count ∷ []) }
+{
+    let mut head = Bytes::with_capacity(alloc, room.saturating_add(2))?;
+    head.extend(&[mark_of(leaf), count as u8])?;
+    Ok(head)
+}
+
 /// The bytes of a node with so many entries.
 pub(crate) fn spelled(
     alloc: Global,
@@ -41,7 +51,7 @@ pub(crate) fn spelled(
     requires { count < 256 }
     ensures { IfOk result (λ all. all ≡ mark leaf ∷ count ∷ entries.now) }
 {
-    let mut all = Bytes::from_slice(alloc, &[mark_of(leaf), count as u8])?;
+    let mut all = head(alloc, leaf, count, entries.len())?;
     all.extend(entries)?;
     Ok(all)
 }
@@ -59,7 +69,12 @@ pub(crate) fn joined(
     ensures { IfOk result (λ all. all ≡ mark leaf ∷ count
         ∷ ((front.now ++ middle.now) ++ back.now)) }
 {
-    let mut all = spelled(alloc, leaf, count, front)?;
+    let room = front
+        .len()
+        .saturating_add(middle.len())
+        .saturating_add(back.len());
+    let mut all = head(alloc, leaf, count, room)?;
+    all.extend(front)?;
     all.extend(middle)?;
     all.extend(back)?;
     Ok(all)

@@ -1,7 +1,7 @@
-use Rattle.std.proofs.Common.{◌≡◌, ◌<◌, ◌-◌, ℕ, List, [], ◌∷◌, map, option_map, Bor, Some, arith}
+use Rattle.std.proofs.Common.{◌≡◌, ◌<◌, ◌-◌, ℕ, List, [], map, option_map, Bor, Some, arith}
 use Rattle.lldb_btree.specs.Decoding.{AreChildren}
 use Rattle.lldb_btree.specs.Nodes.{body, child_entry}
-use Rattle.lldb_btree.proofs.Decodes.{FirstChild, first_child, children_end, children_added, children_next, follows_too, bad_on, on_ok}
+use Rattle.lldb_btree.proofs.Decodes.{first_child, children_end, children_added, children_next, follows_too, bad_on, on_ok}
 use Rattle.lldb_btree.proofs.Splitting.{refused_by, granted_by}
 use Rattle.lldb_btree.proofs.decode.+read_children.Goals as goal
 

@@ -1,7 +1,7 @@
-use Rattle.std.proofs.Common.{◌≡◌, ◌<◌, ◌-◌, ℕ, List, [], ◌∷◌, map, option_map, Bor, Some, arith}
+use Rattle.std.proofs.Common.{◌≡◌, ◌<◌, ◌-◌, ℕ, List, [], map, option_map, Bor, Some, arith}
 use Rattle.lldb_btree.specs.Decoding.{ArePairs}
 use Rattle.lldb_btree.specs.Nodes.{body, pair_entry}
-use Rattle.lldb_btree.proofs.Decodes.{FirstPair, first_pair, pairs_end, pairs_added, pairs_next, follows_too, bad_on, on_ok}
+use Rattle.lldb_btree.proofs.Decodes.{first_pair, pairs_end, pairs_added, pairs_next, follows_too, bad_on, on_ok}
 use Rattle.lldb_btree.proofs.Splitting.{refused_by, granted_by}
 use Rattle.lldb_btree.proofs.decode.+read_pairs.Goals as goal
 

@@ -1,8 +1,8 @@
-use Rattle.std.proofs.Common.{◌≡◌, ◌≤◌, ◌+◌, ◌-◌, ℕ, List, Option, refl, sym, ◌∙◌, arith}
+use Rattle.std.proofs.Common.{◌+◌, ◌-◌, ℕ, List, Option, sym, ◌∙◌, arith}
 use Rattle.lldb_btree.specs.declared.store.Stored.{Stored}
 use Rattle.lldb_btree.specs.Changes.{CanStore}
 use Rattle.lldb_btree.specs.Splicing.{IsFullFor}
-use Rattle.lldb_btree.proofs.Below.{NoEdit, HeadRead, WayRead, AllGo, BelowSet, headless, too_many, leaf_edited, leaf_refused, wayless, goes, below_refused, below_reads, store_refused, inner_edited}
+use Rattle.lldb_btree.proofs.Below.{NoEdit, WayRead, AllGo, BelowSet, headless, too_many, leaf_edited, leaf_refused, wayless, goes, below_refused, below_reads, store_refused, inner_edited}
 use Rattle.lldb_btree.proofs.Full.{full_kept}
 use Rattle.lldb_btree.proofs.Splices.{refuses_then, refuses_last, caused_last, never}
 use Rattle.lldb_btree.proofs.Steps.{Got}

@@ -1,4 +1,4 @@
-use Rattle.std.proofs.Common.{◌≡◌, ℕ, length, map, sym, ◌∙◌, ap, arith}
+use Rattle.std.proofs.Common.{map, ◌∙◌, ap}
 use Rattle.lldb_btree.specs.Bounds.{is_ahead}
 use Rattle.lldb_btree.specs.Nodes.{child_entry, body}
 use Rattle.lldb_btree.proofs.Lengths.{many_of}

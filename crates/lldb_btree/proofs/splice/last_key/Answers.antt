@@ -1,4 +1,4 @@
-use Rattle.std.proofs.Common.{◌-◌, List, [], length, refl, ap, ◌∙◌, arith}
+use Rattle.std.proofs.Common.{◌-◌, [], length, refl, ap, ◌∙◌, arith}
 use Rattle.lldb_btree.proofs.Splices.{last_one, last_bytes}
 use Rattle.lldb_btree.proofs.splice.last_key.Goals as goal
 

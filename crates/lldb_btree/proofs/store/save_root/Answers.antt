@@ -1,9 +1,8 @@
-use Rattle.std.proofs.Common.{◌≡◌, ◌≤◌, ℕ, List, Option, length, ◌∙◌, sym, arith}
+use Rattle.std.proofs.Common.{ℕ, List, Option, arith}
 use Rattle.lldb_base.specs.Contents.{Contents}
 use Rattle.lldb_btree.specs.declared.node.Pair.{Pair}
 use Rattle.lldb_btree.specs.Changes.{CanRoot}
 use Rattle.lldb_btree.specs.Splicing.{IsFullFor}
-use Rattle.lldb_btree.specs.Trees.{HoldsTree}
 use Rattle.lldb_btree.proofs.Rooted.{root_headless, root_count, root_one, root_unsaved}
 use Rattle.lldb_btree.proofs.Decodes.{on_ok}
 use Rattle.lldb_btree.proofs.Splices.{refuses_last}

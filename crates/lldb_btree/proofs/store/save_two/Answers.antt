@@ -1,4 +1,4 @@
-use Rattle.std.proofs.Common.{◌≡◌, ◌≤◌, ℕ, List, ◌∷◌, Option, None, length, refl, sym, ◌∙◌, ap, arith}
+use Rattle.std.proofs.Common.{◌≡◌, ◌≤◌, ℕ, List, ◌∷◌, Option, None, length, refl, sym, ◌∙◌, ap}
 use Rattle.lldb_base.specs.Contents.{Contents}
 use Rattle.lldb_base.specs.Heaps.{MayBeDead}
 use Rattle.lldb_btree.specs.declared.node.Pair.{Pair}

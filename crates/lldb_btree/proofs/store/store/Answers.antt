@@ -1,7 +1,6 @@
-use Rattle.std.proofs.Common.{◌≡◌, ◌≤◌, ℕ, List, Option, length, ◌∙◌, sym, arith}
+use Rattle.std.proofs.Common.{ℕ, List, Option, arith}
 use Rattle.lldb_base.specs.Contents.{Contents}
 use Rattle.lldb_btree.specs.declared.node.Pair.{Pair}
-use Rattle.lldb_btree.specs.declared.store.Stored.{Stored}
 use Rattle.lldb_btree.specs.Changes.{CanStore}
 use Rattle.lldb_btree.specs.Splicing.{IsFullFor}
 use Rattle.lldb_btree.proofs.Rooted.{one_headless, one_count}

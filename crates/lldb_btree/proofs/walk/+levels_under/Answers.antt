@@ -1,4 +1,4 @@
-use Rattle.std.proofs.Common.{◌≡◌, ◌≤◌, ◌+◌, ◌-◌, ℕ, Ok, Err, arith}
+use Rattle.std.proofs.Common.{◌-◌, ℕ, Ok, Err, arith}
 use Rattle.lldb_btree.specs.declared.bound.Bound.TheVariants.{Start}
 use Rattle.lldb_btree.specs.Bounds.{is_ahead}
 use Rattle.lldb_btree.proofs.Ahead.{ahead_falls}
