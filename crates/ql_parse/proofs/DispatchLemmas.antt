@@ -8,19 +8,19 @@ use Rattle.ql_lex.specs.declared.words.Word.{Word}
 use Rattle.ql_lex.specs.declared.words.Word.TheVariants as w
 use Rattle.ql_lex.specs.declared.token.TokenKind.{TokenKind}
 use Rattle.ql_lex.specs.declared.token.TokenKind.TheVariants as kind
-use Rattle.ql_parse.specs.declared.fault.Fault.{Fault}
-use Rattle.ql_parse.specs.declared.fault.Fault.TheVariants as f
+use Rattle.ql_cursor.specs.declared.fault.Fault.{Fault}
+use Rattle.ql_cursor.specs.declared.fault.Fault.TheVariants as f
 use Rattle.ql_syntax.specs.declared.statement.Statement.{Statement}
 use Rattle.ql_syntax.specs.declared.statement.Statement.TheVariants as s
 use Rattle.ql_syntax.specs.Lexemes.{Lexeme, is_word, sees, kind_at, text_at}
 use Rattle.ql_syntax.specs.Rules.{the, statement, select, creation, removal, alteration, insertion, update, deletion, begins_the}
 use Rattle.ql_syntax.specs.Readings.{Parse, leaf, node, left, right, takes, first, second, by_rule}
-use Rattle.ql_parse.specs.Parses.{Gives, Fails, Answers}
+use Rattle.ql_cursor.specs.Parses.{Gives, Fails, Answers}
 use Rattle.ql_syntax.specs.Trees.{select_of}
 use Rattle.ql_parse.specs.StatementParts.{begin_rule, begin_of, truncation_rule}
 use Rattle.ql_syntax.specs.Statements.{statement_of, creation_of, removal_of, alteration_of, truncation_of, insertion_of, update_of, deletion_of}
-use Rattle.ql_parse.proofs.Sequences.{fails_the, fails_left, fails_right, fails_neither}
-use Rattle.ql_parse.proofs.StepLemmas.{head_is}
+use Rattle.ql_cursor.proofs.Sequences.{fails_the, fails_left, fails_right, fails_neither}
+use Rattle.ql_cursor.proofs.StepLemmas.{head_is}
 
 -- what holds of a token of one kind at the front holds of any token of that kind
 by_word : (P : List Lexeme → Type 0) (ts : List Lexeme) (a : Word) → kind_at ts ≡ Some (kind.Word a) → P (record { kind = kind.Word a; text = text_at ts } ∷ drop 1 ts) → P ts

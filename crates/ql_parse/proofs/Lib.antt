@@ -1,16 +1,4 @@
 pub mod ScriptLemmas
 pub mod DispatchLemmas
-pub mod Answering
 pub mod StatementLemmas
-pub mod SelectLemmas
-pub mod PredicateLemmas
-pub mod CallLemmas
-pub mod PrimaryLemmas
-pub mod Sequences
-pub mod BracketLemmas
-pub mod ChainLemmas
-pub mod Loops
-pub mod StepLemmas
-pub mod CursorLemmas
-pub mod GrammarLaws
 pub mod Outcomes

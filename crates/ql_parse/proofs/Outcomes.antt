@@ -6,7 +6,7 @@ use Rattle.ql_syntax.specs.Lexemes.{Lexeme, is_open, is_close, is_comma, is_name
 use Rattle.ql_syntax.specs.Rules.{Rule, Production, rule_of, token, before, nothing, ◌then◌, ◌or◌, maybe, many, bracketed, further, finish, the, list, word, mark, name, if_exists, if_not_exists, filter, subselect, join, enters, script, expr, term, factor, predicate, sum, product, unary, primary, ref, select, set, column, statement, creation, removal, alteration, insertion, update, deletion}
 use Rattle.ql_syntax.specs.Readings as r
 use Rattle.ql_syntax.specs.Readings.{Parse, Reads, Stop, Stops}
-use Rattle.ql_parse.proofs.GrammarLaws.{shorter}
+use Rattle.ql_cursor.proofs.GrammarLaws.{shorter}
 
 -- the tokens read by a rule, or stop
 pub data Ends (n : ℕ) (x : Rule) (ts : List Lexeme) : Type 0 where

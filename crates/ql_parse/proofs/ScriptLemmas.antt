@@ -2,8 +2,8 @@
 use Rattle.std.proofs.Common.{◌≡◌, ◌⊎◌, inl, inr, ℕ, suc, ◌<◌, ◌+◌, ◌-◌, ◌≤◌, true, false, List, [], ◌∷◌, ◌++◌, length, drop, refl, ap, sym, ◌∙◌, arith, append_assoc, append-nil}
 use Rattle.std.specs.Prelude.{Option, Result, Ok, Err}
 use Rattle.ql_lex.specs.declared.marks.Mark.TheVariants as m
-use Rattle.ql_parse.specs.declared.fault.Fault.{Fault}
-use Rattle.ql_parse.specs.declared.fault.Fault.TheVariants as f
+use Rattle.ql_cursor.specs.declared.fault.Fault.{Fault}
+use Rattle.ql_cursor.specs.declared.fault.Fault.TheVariants as f
 use Rattle.ql_parse.specs.declared.fault.ParseFault.{ParseFault}
 use Rattle.ql_parse.specs.declared.fault.ParseFault.TheVariants as p
 use Rattle.ql_syntax.specs.declared.statement.Statement.{Statement}
@@ -13,14 +13,14 @@ use Rattle.ql_syntax.specs.Lexemes.{Lexeme, lexemes, sees, is_mark}
 use Rattle.ql_syntax.specs.Rules.{Rule, the, statement, maybe, script, finish}
 use Rattle.ql_syntax.specs.Readings as r
 use Rattle.ql_syntax.specs.Readings.{Parse, leaf, pair, cell, stop, absent, present, Reads, Stop, Stops, unexpected, too_nested}
-use Rattle.ql_parse.specs.Parses.{Gives, Fails, Adds, fault_of}
+use Rattle.ql_cursor.specs.Parses.{Gives, Fails, Adds, fault_of}
 use Rattle.ql_parse.specs.ScriptFaults.{parse_fault}
 use Rattle.ql_parse.specs.ScriptLaws.{ScriptLaws, Outcome, read, nested}
 use Rattle.ql_parse.specs.ScriptLaws as outcome
 use Rattle.ql_syntax.specs.Scripts.{limit, IsUnexpected, IsTooNested}
 use Rattle.ql_syntax.specs.Statements.{IsRead, later_of, statements_of, with_statement}
 use Rattle.ql_parse.proofs.Outcomes.{Ends, reads, stops, a_script}
-use Rattle.ql_parse.proofs.GrammarLaws.{begins_as_ruled, one_reading, reads_or_stops, one_stop, shorter}
+use Rattle.ql_cursor.proofs.GrammarLaws.{begins_as_ruled, one_reading, reads_or_stops, one_stop, shorter}
 
 -- whatever is read from here on completes what stands behind semicolons, and wherever reading stops it stops
 pub record LaterGoing (n : ℕ) (old now : List Lexeme) (before found : List Statement) : Type 0 where

@@ -1,19 +1,14 @@
 -- What the parts of statements mean.
-use Rattle.std.proofs.Common.{◌≡◌, ℕ, ◌<◌, Bool, true, false, ◌&&◌, List, [], ◌∷◌, drop, refl, ap, arith}
-use Rattle.std.specs.Prelude.{Option, Result}
-use Rattle.std.specs.declared.alloc.Global.{Global}
-use denote.Ref.{MutBor}
+use Rattle.std.proofs.Common.{◌≡◌, ℕ, Bool, true, false, ◌&&◌, List, [], ◌∷◌, drop, refl, ap}
+use Rattle.std.specs.Prelude.{Option}
 use Rattle.ql_value.specs.declared.value.Kind.{Kind}
-use Rattle.ql_parse.specs.declared.fault.Fault.{Fault}
 use Rattle.ql_syntax.specs.declared.statement.ColumnDef.{ColumnDef}
 use Rattle.ql_syntax.specs.declared.syntax.Expr.{Expr}
-use Rattle.ql_syntax.specs.declared.syntax.Select.{Select}
 use Rattle.ql_syntax.specs.Lexemes.{Lexeme, sees, sees_two}
-use Rattle.ql_parse.specs.Nests.{Nests}
 use Rattle.ql_syntax.specs.Trees.{name_of}
 use Rattle.ql_lex.specs.declared.words.Word.{Word}
 use Rattle.ql_syntax.specs.Rules.{item_rule, creation, removal, alteration, before, bracketed}
-use Rattle.ql_parse.specs.Parses.{Gives, no_value}
+use Rattle.ql_cursor.specs.Parses.{Gives, no_value}
 use Rattle.ql_syntax.specs.Readings.{Parse, Reads, leaf, takes_before, pair, left, right, group, node, both, first, second, enclosed}
 use Rattle.ql_parse.specs.StatementParts.{one_item_of, table_rule, table_of, index_rule, index_of, table_or_index_rule, table_or_index_of, quiet_rule, quiet_of, change_rule, change_of}
 use Rattle.ql_syntax.specs.Statements.{item_of, creation_of, removal_of, alteration_of}
@@ -21,17 +16,6 @@ use Rattle.ql_syntax.specs.declared.statement.Assign.{Assign}
 use Rattle.ql_syntax.specs.declared.statement.Item.{Item}
 use Rattle.ql_syntax.specs.declared.statement.RowSource.{RowSource}
 use Rattle.ql_syntax.specs.declared.statement.Statement.TheVariants as s
-
--- functions that parse in any room smaller than a number do so for a smaller number
-pub nests_less : {m n : ℕ} {pre : Global → ℕ → MutBor (List Lexeme) → Type 0} {post : Global → ℕ → MutBor (List Lexeme) → Result Expr Fault → MutBor (List Lexeme) → Type 0}
-    {pre_select : Global → ℕ → MutBor (List Lexeme) → Type 0} {post_select : Global → ℕ → MutBor (List Lexeme) → Result Select Fault → MutBor (List Lexeme) → Type 0}
-    → m < n → Nests n pre post pre_select post_select → Nests m pre post pre_select post_select
-nests_less {m = m} {n = n} less h = record {
-  expr_callable = λ alloc room old e. let k : room < n = omega arith in h.expr_callable alloc room old k;
-  expr_answers = h.expr_answers;
-  select_callable = λ alloc room old e. let k : room < n = omega arith in h.select_callable alloc room old k;
-  select_answers = h.select_answers;
-}
 
 -- equal parts make equal columns
 pub same_column : {n n' : List ℕ} {k k' : Kind} {b b' : Bool} {r r' d d' : Option Expr} → n ≡ n' → k ≡ k' → ◌≡◌ {A = Bool × Option Expr} (b, r) (b', r') → d ≡ d'

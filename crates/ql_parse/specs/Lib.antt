@@ -1,14 +1,5 @@
-pub mod Enclosed
-pub mod Functions
 pub mod Later
-pub mod Lists
-pub mod Members
-pub mod Nests
-pub mod Levels
-pub mod Parses
-pub mod Predicates
 pub mod ScriptFaults
 pub mod ScriptLaws
-pub mod Selects
 pub mod StatementParts
 pub mod StatementLists

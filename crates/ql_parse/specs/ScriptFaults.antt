@@ -1,7 +1,7 @@
 -- The fault of a whole script.
 use Rattle.std.specs.Prelude.{ℕ, ◌-◌}
-use Rattle.ql_parse.specs.declared.fault.Fault.{Fault}
-use Rattle.ql_parse.specs.declared.fault.Fault.TheVariants as f
+use Rattle.ql_cursor.specs.declared.fault.Fault.{Fault}
+use Rattle.ql_cursor.specs.declared.fault.Fault.TheVariants as f
 use Rattle.ql_parse.specs.declared.fault.ParseFault.{ParseFault}
 use Rattle.ql_parse.specs.declared.fault.ParseFault.TheVariants as p
 

@@ -4,8 +4,8 @@ use Rattle.ql_syntax.specs.declared.statement.Assign.{Assign}
 use Rattle.ql_syntax.specs.declared.statement.ColumnDef.{ColumnDef}
 use Rattle.ql_syntax.specs.declared.statement.Item.{Item}
 use Rattle.ql_syntax.specs.declared.syntax.Expr.{Expr}
-use Rattle.ql_parse.specs.Nests.{ListOf, PartOf}
-use Rattle.ql_parse.specs.Parses.{no_value}
+use Rattle.ql_cursor.specs.Parts.{ListOf, PartOf}
+use Rattle.ql_cursor.specs.Parses.{no_value}
 use Rattle.ql_syntax.specs.Rules.{item_rule, the, column, expr, name, list, nothing}
 use Rattle.ql_parse.specs.StatementParts.{row_rule, assign_rule, one_item_of}
 use Rattle.ql_syntax.specs.Statements.{column_of, columns_of, names_of, row_of, rows_of, assign_of, assigns_of}

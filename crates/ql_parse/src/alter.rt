@@ -1,19 +1,16 @@
 //! DROP, TRUNCATE and ALTER TABLE.
 
-ghost use Rattle.ql_parse.specs.Nests.{Nests};
-ghost use Rattle.ql_parse.specs.Parses.{Answers, AnswersAnywhere};
+ghost use Rattle.ql_cursor.specs.Parses.{Answers, AnswersAnywhere};
 ghost use Rattle.ql_syntax.specs.Rules as rule;
 ghost use Rattle.ql_parse.specs.StatementParts as spec;
 ghost use Rattle.ql_syntax.specs.Statements.{alteration_of, removal_of, truncation_of};
 
-use crate::cursor::Cursor;
+use crate::columns::column_def;
 use crate::exists::if_exists;
-use crate::fault::Fault;
-use crate::parser::Parser;
-use crate::steps::{expect_name, expect_word, sees_word, unexpected};
+use ql_cursor::{Cursor, Fault, expect_name, expect_word, sees_word, unexpected};
 use ql_edge::{Boxed, Name};
 use ql_lex::Word;
-use ql_syntax::{Expr, Select, Statement};
+use ql_syntax::Statement;
 use std::alloc::Global;
 
 /// A keyword, IF EXISTS or none of it, and a name.
@@ -52,44 +49,38 @@ pub fn truncation(alloc: Global, cursor: &mut Cursor<'_>) -> Result<Statement, F
     Ok(Statement::Truncate { table })
 }
 
-impl<
-    E: Fn(Global, usize, &mut Cursor<'_>) -> Result<Expr, Fault> + Copy,
-    S: Fn(Global, usize, &mut Cursor<'_>) -> Result<Select, Fault> + Copy,
-> Parser<E, S> {
-    /// The change of a table, from ADD or DROP on.
-    fn change(&self, cursor: &mut Cursor<'_>, table: Name) -> Result<Statement, Fault>
-        requires { Nests self.now.room
-            (E.pre self.now.expr) (E.post self.now.expr)
-            (S.pre self.now.select) (S.post self.now.select) }
-        ensures { Answers self.now.room spec.change_rule (spec.change_of table)
-            cursor.old result cursor.new }
-    {
-        if sees_word(cursor, Word::Add) {
-            cursor.skip();
-            let definition = self.column_def(cursor)?;
-            let column = Boxed::new(self.alloc, definition)?;
-            return Ok(Statement::AddColumn { table, column });
-        }
-        if !sees_word(cursor, Word::Drop) {
-            return Err(unexpected(cursor));
-        }
+/// The change of a table, from ADD or DROP on.
+fn change(
+    alloc: Global,
+    room: usize,
+    cursor: &mut Cursor<'_>,
+    table: Name,
+) -> Result<Statement, Fault>
+    ensures { Answers room spec.change_rule (spec.change_of table)
+        cursor.old result cursor.new }
+{
+    if sees_word(cursor, Word::Add) {
         cursor.skip();
-        expect_word(cursor, Word::Column)?;
-        let column = expect_name(self.alloc, cursor)?;
-        Ok(Statement::DropColumn { table, column })
+        let definition = column_def(alloc, room, cursor)?;
+        let column = Boxed::new(alloc, definition)?;
+        return Ok(Statement::AddColumn { table, column });
     }
+    if !sees_word(cursor, Word::Drop) {
+        return Err(unexpected(cursor));
+    }
+    cursor.skip();
+    expect_word(cursor, Word::Column)?;
+    let column = expect_name(alloc, cursor)?;
+    Ok(Statement::DropColumn { table, column })
+}
 
-    /// ALTER TABLE.
-    pub fn alteration(&self, cursor: &mut Cursor<'_>) -> Result<Statement, Fault>
-        requires { Nests self.now.room
-            (E.pre self.now.expr) (E.post self.now.expr)
-            (S.pre self.now.select) (S.post self.now.select) }
-        ensures { Answers self.now.room (rule.the rule.alteration) alteration_of
-            cursor.old result cursor.new }
-    {
-        expect_word(cursor, Word::Alter)?;
-        expect_word(cursor, Word::Table)?;
-        let table = expect_name(self.alloc, cursor)?;
-        self.change(cursor, table)
-    }
+/// ALTER TABLE.
+pub fn alteration(alloc: Global, room: usize, cursor: &mut Cursor<'_>) -> Result<Statement, Fault>
+    ensures { Answers room (rule.the rule.alteration) alteration_of
+        cursor.old result cursor.new }
+{
+    expect_word(cursor, Word::Alter)?;
+    expect_word(cursor, Word::Table)?;
+    let table = expect_name(alloc, cursor)?;
+    change(alloc, room, cursor, table)
 }

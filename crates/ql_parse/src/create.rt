@@ -2,25 +2,21 @@
 
 ghost use Rattle.std.specs.Prelude.{◌≡◌};
 ghost use Rattle.ql_syntax.specs.Lexemes.{sees_two, is_id, is_open};
-ghost use Rattle.ql_parse.specs.Nests.{Nests};
-ghost use Rattle.ql_parse.specs.Parses.{Answers, AnswersAnywhere, no_value};
+ghost use Rattle.ql_cursor.specs.Parses.{Answers, AnswersAnywhere, no_value};
 ghost use Rattle.ql_syntax.specs.Rules as rule;
 ghost use Rattle.ql_parse.specs.StatementLists as lists;
 ghost use Rattle.ql_parse.specs.StatementParts as spec;
 ghost use Rattle.ql_syntax.specs.Statements.{creation_of};
 
-use crate::brackets::{Enclosed, in_brackets};
-use crate::cursor::Cursor;
+use crate::columns::column_defs;
 use crate::exists::unless_exists;
-use crate::fault::Fault;
-use crate::functions::is_spelled;
-use crate::parser::Parser;
-use crate::steps::{
-    eat_word, expect_name, expect_word, sees_name, sees_open_behind, sees_word, unexpected,
+use ql_cursor::{
+    Cursor, Enclosed, Fault, eat_word, expect_name, expect_word, in_brackets, is_spelled,
+    sees_name, sees_open_behind, sees_word, unexpected,
 };
 use ql_edge::{Boxed, Name};
 use ql_lex::{TokenKind, Word};
-use ql_syntax::{ColumnDefs, Expr, Item, Select, Statement};
+use ql_syntax::{ColumnDefs, Item, Statement};
 use std::alloc::Global;
 
 /// The columns of a table.
@@ -121,56 +117,42 @@ fn create_index(alloc: Global, room: usize, cursor: &mut Cursor<'_>) -> Result<S
     })
 }
 
-impl<
-    E: Fn(Global, usize, &mut Cursor<'_>) -> Result<Expr, Fault> + Copy,
-    S: Fn(Global, usize, &mut Cursor<'_>) -> Result<Select, Fault> + Copy,
-> Parser<E, S> {
-    /// CREATE TABLE, from TABLE on.
-    fn create_table(&self, cursor: &mut Cursor<'_>) -> Result<Statement, Fault>
-        requires { Nests self.now.room
-            (E.pre self.now.expr) (E.post self.now.expr)
-            (S.pre self.now.select) (S.post self.now.select) }
-        ensures { Answers self.now.room spec.table_rule spec.table_of cursor.old result cursor.new }
-    {
-        expect_word(cursor, Word::Table)?;
-        let quiet = unless_exists(cursor)?;
-        let table = expect_name(self.alloc, cursor)?;
-        let columns = in_brackets::<Columns, _>(self.room, cursor, |room, cursor| {
-            self.column_defs(room, cursor)
-        })?;
-        Ok(Statement::CreateTable {
-            quiet,
-            table,
-            columns,
-        })
-    }
+/// CREATE TABLE, from TABLE on.
+fn create_table(alloc: Global, room: usize, cursor: &mut Cursor<'_>) -> Result<Statement, Fault>
+    ensures { Answers room spec.table_rule spec.table_of cursor.old result cursor.new }
+{
+    expect_word(cursor, Word::Table)?;
+    let quiet = unless_exists(cursor)?;
+    let table = expect_name(alloc, cursor)?;
+    let columns = in_brackets::<Columns, _>(room, cursor, |room, cursor| {
+        column_defs(alloc, room, cursor)
+    })?;
+    Ok(Statement::CreateTable {
+        quiet,
+        table,
+        columns,
+    })
+}
 
-    /// What stands behind CREATE.
-    fn table_or_index(&self, cursor: &mut Cursor<'_>) -> Result<Statement, Fault>
-        requires { Nests self.now.room
-            (E.pre self.now.expr) (E.post self.now.expr)
-            (S.pre self.now.select) (S.post self.now.select) }
-        ensures { Answers self.now.room spec.table_or_index_rule spec.table_or_index_of
-            cursor.old result cursor.new }
-    {
-        if sees_word(cursor, Word::Table) {
-            return self.create_table(cursor);
-        }
-        if begins_index(cursor) {
-            return create_index(self.alloc, self.room, cursor);
-        }
-        Err(unexpected(cursor))
+/// What stands behind CREATE.
+fn table_or_index(alloc: Global, room: usize, cursor: &mut Cursor<'_>) -> Result<Statement, Fault>
+    ensures { Answers room spec.table_or_index_rule spec.table_or_index_of
+        cursor.old result cursor.new }
+{
+    if sees_word(cursor, Word::Table) {
+        return create_table(alloc, room, cursor);
     }
+    if begins_index(cursor) {
+        return create_index(alloc, room, cursor);
+    }
+    Err(unexpected(cursor))
+}
 
-    /// CREATE TABLE or CREATE INDEX.
-    pub fn creation(&self, cursor: &mut Cursor<'_>) -> Result<Statement, Fault>
-        requires { Nests self.now.room
-            (E.pre self.now.expr) (E.post self.now.expr)
-            (S.pre self.now.select) (S.post self.now.select) }
-        ensures { Answers self.now.room (rule.the rule.creation) creation_of
-            cursor.old result cursor.new }
-    {
-        expect_word(cursor, Word::Create)?;
-        self.table_or_index(cursor)
-    }
+/// CREATE TABLE or CREATE INDEX.
+pub fn creation(alloc: Global, room: usize, cursor: &mut Cursor<'_>) -> Result<Statement, Fault>
+    ensures { Answers room (rule.the rule.creation) creation_of
+        cursor.old result cursor.new }
+{
+    expect_word(cursor, Word::Create)?;
+    table_or_index(alloc, room, cursor)
 }

@@ -1,12 +1,10 @@
 //! IF EXISTS and IF NOT EXISTS.
 
-ghost use Rattle.ql_parse.specs.Parses.{AnswersAnywhere};
+ghost use Rattle.ql_cursor.specs.Parses.{AnswersAnywhere};
 ghost use Rattle.ql_syntax.specs.Rules as rule;
 ghost use Rattle.ql_syntax.specs.Trees.{is_present};
 
-use crate::cursor::Cursor;
-use crate::fault::Fault;
-use crate::steps::{expect_word, sees_word};
+use ql_cursor::{Cursor, Fault, expect_word, sees_word};
 use ql_lex::Word;
 
 /// IF EXISTS, or none of it: whether it stands there.

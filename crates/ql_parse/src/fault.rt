@@ -1,10 +1,10 @@
 //! Why tokens are no script.
 
 ghost use Rattle.std.specs.Prelude.{◌≡◌};
-ghost use Rattle.ql_parse.specs.declared.fault.Fault.TheVariants as variant;
 ghost use Rattle.ql_parse.specs.declared.fault.ParseFault.TheVariants as public;
 ghost use Rattle.ql_parse.specs.ScriptFaults.{parse_fault};
 
+use ql_cursor::Fault;
 use ql_edge::NoMemory;
 
 /// Why a list of tokens is no script.
@@ -26,34 +26,13 @@ impl From<NoMemory> for ParseFault {
     }
 }
 
-/// Why a part of a script does not read. The number is that of the tokens that are left, from the place on.
-#[derive(Clone, Copy, Debug, PartialEq, Eq)]
-pub enum Fault {
-    /// The next token is unexpected, or the end comes too early.
-    Unexpected(usize),
-    /// The next token opens a bracket, and no more may be opened.
-    TooNested(usize),
-    /// Memory ran out. It says nothing of the script.
-    NoMemory,
-}
-
-impl Fault {
-    /// The fault of a script of so many tokens.
-    pub fn parse_fault(self, count: usize) -> ParseFault
-        ensures { result ≡ parse_fault count self }
-    {
-        match self {
-            Fault::Unexpected(left) => ParseFault::Unexpected(count.saturating_sub(left) as u64),
-            Fault::TooNested(left) => ParseFault::TooNested(count.saturating_sub(left) as u64),
-            Fault::NoMemory => ParseFault::NoMemory,
-        }
-    }
-}
-
-impl From<NoMemory> for Fault {
-    ghost from_gives = { λ _ fault. fault ≡ variant.NoMemory };
-
-    fn from(_: NoMemory) -> Fault {
-        Fault::NoMemory
+/// The fault of a script of so many tokens, by that of a part.
+pub fn parse_fault(fault: Fault, count: usize) -> ParseFault
+    ensures { result ≡ parse_fault count fault }
+{
+    match fault {
+        Fault::Unexpected(left) => ParseFault::Unexpected(count.saturating_sub(left) as u64),
+        Fault::TooNested(left) => ParseFault::TooNested(count.saturating_sub(left) as u64),
+        Fault::NoMemory => ParseFault::NoMemory,
     }
 }

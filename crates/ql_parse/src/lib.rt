@@ -2,29 +2,13 @@
 #![tactic(auto)]
 
 mod alter;
-mod brackets;
-mod chain;
-mod clause;
 mod columns;
 mod create;
-mod cursor;
 mod exists;
 mod fault;
-mod from;
-mod functions;
 mod insert;
-mod kinds;
-mod level;
-mod list;
-mod members;
-mod nested;
-mod parser;
-mod predicate;
-mod primary;
 mod scripts;
-mod select;
 mod statement;
-mod steps;
 mod update;
 
 pub use fault::ParseFault;

@@ -4,8 +4,7 @@ ghost use Rattle.std.specs.Prelude.{◌≡◌, ◌⊎◌, ◌++◌, ℕ, List, O
 ghost use Rattle.ql_lex.specs.Tokens.{Reads};
 ghost use Rattle.ql_parse.specs.Later.{later_rule, listed, maybe_statement_of};
 ghost use Rattle.ql_syntax.specs.Lexemes.{lexemes};
-ghost use Rattle.ql_parse.specs.Nests.{Nests};
-ghost use Rattle.ql_parse.specs.Parses.{Answers, Fails, Adds};
+ghost use Rattle.ql_cursor.specs.Parses.{Answers, Fails, Adds};
 ghost use Rattle.ql_syntax.specs.Rules as rule;
 ghost use Rattle.ql_parse.specs.ScriptLaws.{ScriptLaws};
 ghost use Rattle.ql_syntax.specs.Scripts.{IsUnexpected, IsTooNested};
@@ -14,15 +13,12 @@ ghost use Rattle.ql_parse.specs.declared.fault.ParseFault.TheVariants as fault;
 ghost use Rattle.ql_parse.specs.declared.scripts.TheConstants.{BRACKET_LIMIT};
 ghost use Rattle.ql_syntax.specs.declared.statement.Statement.{Statement};
 
-use crate::cursor::Cursor;
-use crate::fault::{Fault, ParseFault};
-use crate::kinds::begins_statement;
-use crate::nested::{expr, select};
-use crate::parser::Parser;
-use crate::steps::{eat_mark, unexpected};
+use crate::fault::{ParseFault, parse_fault};
+use crate::statement::{begins_statement, statement};
+use ql_cursor::{Cursor, Fault, eat_mark, unexpected};
 use ql_edge::NoMemory;
 use ql_lex::{Mark, Tokens};
-use ql_syntax::{Expr, Select, Statement, Statements};
+use ql_syntax::{Statement, Statements};
 use std::alloc::Global;
 
 /// How many brackets may be open at once.
@@ -38,55 +34,47 @@ fn add(found: &mut Statements, statement: Option<Statement>) -> Result<(), NoMem
     Ok(())
 }
 
-impl<
-    E: Fn(Global, usize, &mut Cursor<'_>) -> Result<Expr, Fault> + Copy,
-    S: Fn(Global, usize, &mut Cursor<'_>) -> Result<Select, Fault> + Copy,
-> Parser<E, S> {
-    /// A statement that may be empty.
-    fn maybe_statement(&self, cursor: &mut Cursor<'_>) -> Result<Option<Statement>, Fault>
-        requires { Nests self.now.room
-            (E.pre self.now.expr) (E.post self.now.expr)
-            (S.pre self.now.select) (S.post self.now.select) }
-        ensures { Answers self.now.room (rule.maybe (rule.the rule.statement)) maybe_statement_of
-            cursor.old result cursor.new }
-    {
-        if !begins_statement(cursor) {
-            return Ok(None);
-        }
-        Ok(Some(self.statement(cursor)?))
+/// A statement that may be empty.
+fn maybe_statement(
+    alloc: Global,
+    room: usize,
+    cursor: &mut Cursor<'_>,
+) -> Result<Option<Statement>, Fault>
+    ensures { Answers room (rule.maybe (rule.the rule.statement)) maybe_statement_of
+        cursor.old result cursor.new }
+{
+    if !begins_statement(cursor) {
+        return Ok(None);
     }
+    Ok(Some(statement(alloc, room, cursor)?))
+}
 
-    /// Adds the statements behind semicolons.
-    fn add_later(&self, cursor: &mut Cursor<'_>, found: &mut Statements) -> Result<(), Fault>
-        requires { Nests self.now.room
-            (E.pre self.now.expr) (E.post self.now.expr)
-            (S.pre self.now.select) (S.post self.now.select) }
-        ensures ok { OnOk result (Adds self.now.room later_rule later_of
-            cursor.old found.old cursor.new found.new) }
-        ensures err { IfErr result (Fails self.now.room later_rule cursor.old) }
-    {
-        'later: while eat_mark(cursor, Mark::Semicolon) {
-            let statement = self.maybe_statement(cursor)?;
-            add(found, statement)?;
-        }
-        Ok(())
+/// Adds the statements behind semicolons.
+fn add_later(
+    alloc: Global,
+    room: usize,
+    cursor: &mut Cursor<'_>,
+    found: &mut Statements,
+) -> Result<(), Fault>
+    ensures ok { OnOk result (Adds room later_rule later_of
+        cursor.old found.old cursor.new found.new) }
+    ensures err { IfErr result (Fails room later_rule cursor.old) }
+{
+    'later: while eat_mark(cursor, Mark::Semicolon) {
+        let statement = maybe_statement(alloc, room, cursor)?;
+        add(found, statement)?;
     }
+    Ok(())
 }
 
 /// The statements of all tokens.
 fn statements(alloc: Global, cursor: &mut Cursor<'_>) -> Result<Statements, Fault>
     ensures { Answers BRACKET_LIMIT rule.script statements_of cursor.old result cursor.new }
 {
-    let parser = Parser {
-        alloc,
-        room: BRACKET_LIMIT,
-        expr,
-        select,
-    };
     let mut found = Statements::new(alloc);
-    let first = parser.maybe_statement(cursor)?;
+    let first = maybe_statement(alloc, BRACKET_LIMIT, cursor)?;
     add(&mut found, first)?;
-    parser.add_later(cursor, &mut found)?;
+    add_later(alloc, BRACKET_LIMIT, cursor, &mut found)?;
     if cursor.left() > 0 {
         return Err(unexpected(cursor));
     }
@@ -120,6 +108,6 @@ pub fn script(alloc: Global, source: &[u8], tokens: Tokens) -> Result<Statements
     let mut cursor = Cursor::new(source, tokens);
     match statements(alloc, &mut cursor) {
         Ok(found) => Ok(found),
-        Err(fault) => Err(fault.parse_fault(count)),
+        Err(fault) => Err(parse_fault(fault, count)),
     }
 }

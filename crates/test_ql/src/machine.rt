@@ -1,29 +1,39 @@
 //! A machine in memory, and the lists.
 ghost use Rattle.std.specs.Prelude.{◌<◌};
 
-use crate::made::{bytes, failing, sound};
+use crate::made::{failing, sound, with_files};
 use ql_edge::{
-    Bytes, DeviceFault, Items, Machine, MemMachine, MemPlan, Name, Names, Names0, Numbers, Shows,
-    show_all, warn_all,
+    DeviceFault, Items, Machine, MemMachine, Name, Names, Names0, Numbers, Shows, show_all,
+    warn_all,
 };
 use std::alloc::Global;
+use std::process::Abort;
 use std::test::Fail;
 
 #[test]
-fn lists(rt: HostRuntime) -> Result<(), Fail> {
-    let alloc = rt.alloc();
-    let mut numbers = Numbers::new(alloc);
+fn numbers(rt: HostRuntime) -> Result<(), Fail> {
+    let mut numbers = Numbers::new(rt.alloc());
     numbers.push(3)?;
     numbers.extend(&[1, 2])?;
     assert_eq!(rt; numbers.as_slice(), [3, 1, 2].as_slice());
     assert_eq!(rt; numbers.len(), 3);
     assert_eq!(rt; numbers.into_vec().len(), 3);
-    let mut names = Names::new(alloc);
-    names.push(Name::new(alloc, b"tea")?)?;
+    Ok(())
+}
+
+#[test]
+fn names(rt: HostRuntime) -> Result<(), Fail> {
+    let mut names = Names::new(rt.alloc());
+    names.push(Name::new(rt.alloc(), b"tea")?)?;
     assert_eq!(rt; names.len(), 1);
-    assert_eq!(rt; Name::new(alloc, b"t")?.as_slice(), b"t".as_slice());
-    let mut list: Names0 = Items::new(alloc);
-    list.push(Name::new(alloc, b"tea")?.into_bytes())?;
+    assert_eq!(rt; Name::new(rt.alloc(), b"t")?.as_slice(), b"t".as_slice());
+    Ok(())
+}
+
+#[test]
+fn clears_a_list(rt: HostRuntime) -> Result<(), Fail> {
+    let mut list: Names0 = Items::new(rt.alloc());
+    list.push(Name::new(rt.alloc(), b"tea")?.into_bytes())?;
     list.clear();
     assert_eq!(rt; list.len(), 0);
     Ok(())
@@ -39,24 +49,36 @@ fn read(alloc: Global, machine: &mut MemMachine, most: usize) -> Result<Vec<u8>,
     Ok(out)
 }
 
+/// Whether one read of at most so many bytes gives these.
+fn gives(
+    alloc: Global,
+    machine: &mut MemMachine,
+    most: usize,
+    want: &[u8],
+) -> Result<bool, DeviceFault>
+    requires { 0 < most }
+{
+    Ok(read(alloc, machine, most)?.as_slice() == want)
+}
+
+/// Reads `abcde`, at most two bytes at once, where the second call fails.
+fn read_pieces(
+    rt: &(impl Abort + Alloc<A = Global>),
+    machine: &mut MemMachine,
+) -> Result<(), DeviceFault> {
+    assert!(rt; gives(rt.alloc(), machine, 3, b"ab")?);
+    assert!(rt; gives(rt.alloc(), machine, 3, b"").is_err());
+    assert!(rt; gives(rt.alloc(), machine, 1, b"c")?);
+    assert!(rt; gives(rt.alloc(), machine, 3, b"de")?);
+    assert!(rt; gives(rt.alloc(), machine, 3, b"")?);
+    assert_eq!(rt; machine.faults(), 1);
+    Ok(())
+}
+
 #[test]
 fn reads_in_pieces(rt: HostRuntime) -> Result<(), Fail> {
     let mut machine = failing(rt.alloc(), b"abcde", &[1], 2, None)?;
-    assert_eq!(rt;
-        read(rt.alloc(), &mut machine, 3)?.as_slice(),
-        b"ab".as_slice()
-    );
-    assert!(rt; read(rt.alloc(), &mut machine, 3).is_err());
-    assert_eq!(rt;
-        read(rt.alloc(), &mut machine, 1)?.as_slice(),
-        b"c".as_slice()
-    );
-    assert_eq!(rt;
-        read(rt.alloc(), &mut machine, 3)?.as_slice(),
-        b"de".as_slice()
-    );
-    assert_eq!(rt; read(rt.alloc(), &mut machine, 3)?.len(), 0);
-    assert_eq!(rt; machine.faults(), 1);
+    read_pieces(&rt, &mut machine)?;
     Ok(())
 }
 
@@ -65,50 +87,64 @@ fn show(machine: &mut MemMachine, piece: &[u8]) -> Option<u64> {
     machine.show(piece).ok()
 }
 
+/// Shows four pieces, where the first call fails and three bytes are shown at most.
+fn show_pieces(rt: &impl Abort, machine: &mut MemMachine) {
+    assert_eq!(rt; show(machine, b"ab"), None);
+    assert_eq!(rt; show(machine, b"ab"), Some(2));
+    assert_eq!(rt; show(machine, b"cd"), Some(1));
+    assert_eq!(rt; show(machine, b"d"), None);
+    assert_eq!(rt; show(machine, b""), Some(0));
+    assert_eq!(rt; machine.shown().as_slice(), b"abc".as_slice());
+    assert_eq!(rt; machine.faults(), 2);
+}
+
 #[test]
 fn shows_up_to_its_total(rt: HostRuntime) -> Result<(), Fail> {
     let mut machine = failing(rt.alloc(), b"", &[0], 1, Some(3))?;
-    assert_eq!(rt; show(&mut machine, b"ab"), None);
-    assert_eq!(rt; show(&mut machine, b"ab"), Some(2));
-    assert_eq!(rt; show(&mut machine, b"cd"), Some(1));
-    assert_eq!(rt; show(&mut machine, b"d"), None);
-    assert_eq!(rt; show(&mut machine, b""), Some(0));
-    assert_eq!(rt; machine.shown().as_slice(), b"abc".as_slice());
-    assert_eq!(rt; machine.faults(), 2);
+    show_pieces(&rt, &mut machine);
+    Ok(())
+}
+
+/// Shows and warns whole texts.
+fn show_texts(rt: &impl Abort, machine: &mut MemMachine) -> Result<(), DeviceFault> {
+    show_all(machine, b"one ")?;
+    show_all(machine, b"two")?;
+    warn_all(machine, b"three")?;
+    assert_eq!(rt; machine.shown().as_slice(), b"one two".as_slice());
+    assert_eq!(rt; machine.warned().as_slice(), b"three".as_slice());
     Ok(())
 }
 
 #[test]
 fn shows_and_warns_whole_texts(rt: HostRuntime) -> Result<(), Fail> {
     let mut machine = sound(rt.alloc(), b"")?;
-    show_all(&mut machine, b"one ")?;
-    show_all(&mut machine, b"two")?;
-    warn_all(&mut machine, b"three")?;
-    assert_eq!(rt; machine.shown().as_slice(), b"one two".as_slice());
-    assert_eq!(rt; machine.warned().as_slice(), b"three".as_slice());
-    let mut short = failing(rt.alloc(), b"", &[], 1, Some(5))?;
-    assert_eq!(rt; show_all(&mut short, b"one two"), Err(DeviceFault::Failed));
-    assert_eq!(rt; short.shown().as_slice(), b"one t".as_slice());
+    show_texts(&rt, &mut machine)?;
     Ok(())
+}
+
+/// Shows a text of which five bytes are shown.
+fn show_short(rt: &impl Abort, machine: &mut MemMachine) {
+    assert_eq!(rt; show_all(machine, b"one two"), Err(DeviceFault::Failed));
+    assert_eq!(rt; machine.shown().as_slice(), b"one t".as_slice());
+}
+
+#[test]
+fn shows_a_front_of_a_text(rt: HostRuntime) -> Result<(), Fail> {
+    let mut short = failing(rt.alloc(), b"", &[], 1, Some(5))?;
+    show_short(&rt, &mut short);
+    Ok(())
+}
+
+/// Compares the files of a machine, which has shown and warned nothing.
+fn compare_files(rt: &impl Abort, machine: &MemMachine) {
+    assert_eq!(rt; machine.data_bytes().as_slice(), b"data".as_slice());
+    assert_eq!(rt; machine.log_bytes().as_slice(), b"log".as_slice());
+    assert_eq!(rt; machine.shown().len() + machine.warned().len(), 0);
 }
 
 #[test]
 fn keeps_its_files(rt: HostRuntime) -> Result<(), Fail> {
-    let alloc = rt.alloc();
-    let plan = MemPlan {
-        fails: Numbers::new(alloc),
-        read_most: 1,
-        show_total: None,
-    };
-    let machine = MemMachine::new(
-        alloc,
-        bytes(alloc, b"data")?,
-        bytes(alloc, b"log")?,
-        Bytes::new(alloc),
-        plan,
-    )?;
-    assert_eq!(rt; machine.data_bytes().as_slice(), b"data".as_slice());
-    assert_eq!(rt; machine.log_bytes().as_slice(), b"log".as_slice());
-    assert_eq!(rt; machine.shown().len() + machine.warned().len(), 0);
+    let machine = with_files(rt.alloc(), b"data", b"log")?;
+    compare_files(&rt, &machine);
     Ok(())
 }

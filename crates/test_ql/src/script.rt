@@ -1,9 +1,8 @@
 //! Scripts on standard input, carried out.
 ghost use Rattle.std.specs.Prelude.{◌<◌};
 
-use crate::made::{bytes, failing, sound};
+use crate::made::{Left, bytes, failing, leaves, sound};
 use ql_edge::{Bytes, MemMachine, NoMemory};
-use ql_shell::{code, run};
 use std::alloc::Global;
 use std::process::Abort;
 use std::test::Fail;
@@ -193,24 +192,35 @@ const EXPRESSIONS: [Row; 15] = [
     },
 ];
 
-/// The machine after a run without words, and the exit status.
-fn after(alloc: Global, machine: MemMachine) -> (MemMachine, u8) {
-    let (machine, status) = run(alloc, &Vec::new(alloc), machine);
-    (machine, code(&status))
+/// Runs a machine without words, and compares what is left.
+fn leaves_alone(rt: &(impl Abort + Alloc<A = Global>), machine: MemMachine, want: &Left<'_>) {
+    leaves(rt, &Vec::new(rt.alloc()), machine, want);
 }
 
-fn carry_out(rt: &(impl Abort + Alloc<A = Global>), row: &Row) -> Result<(), NoMemory> {
-    let (machine, status) = after(rt.alloc(), sound(rt.alloc(), row.script)?);
-    assert_eq!(rt; machine.shown().as_slice(), row.shown);
-    assert_eq!(rt; machine.warned().as_slice(), row.warned);
-    assert_eq!(rt; status, row.status);
+/// Carries out a script, and compares what is left.
+fn carry_out(
+    rt: &(impl Abort + Alloc<A = Global>),
+    script: &[u8],
+    want: &Left<'_>,
+) -> Result<(), NoMemory> {
+    leaves_alone(rt, sound(rt.alloc(), script)?, want);
     Ok(())
+}
+
+fn carry_out_row(rt: &(impl Abort + Alloc<A = Global>), row: &Row) -> Result<(), NoMemory> {
+    let want = Left {
+        shown: row.shown,
+        warned: row.warned,
+        status: row.status,
+        faults: 0,
+    };
+    carry_out(rt, row.script, &want)
 }
 
 #[test]
 fn carries_out_scripts(rt: HostRuntime) -> Result<(), Fail> {
     for row in &ROWS {
-        carry_out(&rt, row)?;
+        carry_out_row(&rt, row)?;
     }
     Ok(())
 }
@@ -218,31 +228,42 @@ fn carries_out_scripts(rt: HostRuntime) -> Result<(), Fail> {
 #[test]
 fn evaluates_expressions(rt: HostRuntime) -> Result<(), Fail> {
     for row in &EXPRESSIONS {
-        carry_out(&rt, row)?;
+        carry_out_row(&rt, row)?;
     }
     Ok(())
 }
 
-/// The machine after a run of the two rows where these device calls fail, and the exit status.
-fn after_faults(alloc: Global, calls: &[u64]) -> Result<(MemMachine, u8), NoMemory> {
-    Ok(after(alloc, failing(alloc, TWO_ROWS, calls, 1000, None)?))
+/// Carries out the two rows where these device calls fail, and compares what is left.
+fn carry_out_failing(
+    rt: &(impl Abort + Alloc<A = Global>),
+    calls: &[u64],
+    want: &Left<'_>,
+) -> Result<(), NoMemory> {
+    leaves_alone(rt, failing(rt.alloc(), TWO_ROWS, calls, 1000, None)?, want);
+    Ok(())
 }
+
+/// A run that stopped at a device fault, which it could tell.
+const STOPPED: Left<'static> = Left {
+    shown: b"",
+    warned: b"ql: device fault\n",
+    status: 3,
+    faults: 1,
+};
+
+/// The same where the line failed too.
+const STOPPED_SILENTLY: Left<'static> = Left {
+    shown: b"",
+    warned: b"",
+    status: 3,
+    faults: 2,
+};
 
 fn stops_at(rt: &(impl Abort + Alloc<A = Global>), call: u64) -> Result<(), NoMemory>
     requires { call < 100 }
 {
-    let (machine, status) = after_faults(rt.alloc(), &[call])?;
-    assert_eq!(rt; status, 3);
-    assert_eq!(rt; machine.shown().len(), 0);
-    assert_eq!(rt;
-        machine.warned().as_slice(),
-        b"ql: device fault\n".as_slice()
-    );
-    let (machine, status) = after_faults(rt.alloc(), &[call, call + 1])?;
-    assert_eq!(rt; status, 3);
-    assert_eq!(rt; machine.warned().len(), 0);
-    assert_eq!(rt; machine.faults(), 2);
-    Ok(())
+    carry_out_failing(rt, &[call], &STOPPED)?;
+    carry_out_failing(rt, &[call, call + 1], &STOPPED_SILENTLY)
 }
 
 #[test]
@@ -250,33 +271,66 @@ fn stops_at_a_fault(rt: HostRuntime) -> Result<(), Fail> {
     for call in 0..3 {
         stops_at(&rt, call)?;
     }
-    let (machine, status) = after_faults(rt.alloc(), &[3])?;
-    assert_eq!(rt; status, 0);
-    assert_eq!(rt; machine.shown().as_slice(), b"1\n2\n".as_slice());
+    Ok(())
+}
+
+#[test]
+fn makes_three_calls(rt: HostRuntime) -> Result<(), Fail> {
+    let want = Left {
+        shown: b"1\n2\n",
+        warned: b"",
+        status: 0,
+        faults: 0,
+    };
+    carry_out_failing(&rt, &[3], &want)?;
     Ok(())
 }
 
 #[test]
 fn shows_what_there_is_room_for(rt: HostRuntime) -> Result<(), Fail> {
     let script = b"CREATE TABLE t (a int64); INSERT INTO t VALUES (1), (2), (3); SELECT * FROM t;";
-    let (machine, status) = after(rt.alloc(), failing(rt.alloc(), script, &[], 1000, Some(3))?);
-    assert_eq!(rt; status, 3);
-    assert_eq!(rt; machine.shown().as_slice(), b"1\n2".as_slice());
-    assert_eq!(rt;
-        machine.warned().as_slice(),
-        b"ql: device fault\n".as_slice()
-    );
+    let want = Left {
+        shown: b"1\n2",
+        warned: b"ql: device fault\n",
+        status: 3,
+        faults: 1,
+    };
+    leaves_alone(&rt, failing(rt.alloc(), script, &[], 1000, Some(3))?, &want);
     Ok(())
 }
 
 #[test]
 fn keeps_its_status_where_the_line_fails(rt: HostRuntime) -> Result<(), Fail> {
-    let machine = failing(rt.alloc(), b"SELECT * FROM u", &[2], 1000, None)?;
-    let (machine, status) = after(rt.alloc(), machine);
-    assert_eq!(rt; status, 1);
-    assert_eq!(rt; machine.warned().len(), 0);
-    assert_eq!(rt; machine.faults(), 1);
+    let want = Left {
+        shown: b"",
+        warned: b"",
+        status: 1,
+        faults: 1,
+    };
+    leaves_alone(
+        &rt,
+        failing(rt.alloc(), b"SELECT * FROM u", &[2], 1000, None)?,
+        &want,
+    );
     Ok(())
+}
+
+/// What is left of a script that shows nothing.
+const NOTHING: Left<'static> = Left {
+    shown: b"",
+    warned: b"",
+    status: 0,
+    faults: 0,
+};
+
+/// What is left of a script that is refused with this line.
+fn refused(warned: &[u8]) -> Left<'_> {
+    Left {
+        shown: b"",
+        warned,
+        status: 1,
+        faults: 0,
+    }
 }
 
 /// A script that makes so many tables.
@@ -290,18 +344,18 @@ fn tables(alloc: Global, count: u32) -> Result<Bytes, Fail> {
 }
 
 #[test]
+fn makes_4096_tables(rt: HostRuntime) -> Result<(), Fail> {
+    let script = tables(rt.alloc(), 4096)?;
+    carry_out(&rt, script.as_slice(), &NOTHING)?;
+    Ok(())
+}
+
+#[test]
 fn makes_4096_tables_at_most(rt: HostRuntime) -> Result<(), Fail> {
-    let most = tables(rt.alloc(), 4096)?;
-    let (_, status) = after(rt.alloc(), sound(rt.alloc(), most.as_slice())?);
-    assert_eq!(rt; status, 0);
-    let mut more = most;
-    more.extend(b"CREATE TABLE t0 (a int64);")?;
-    let (machine, status) = after(rt.alloc(), sound(rt.alloc(), more.as_slice())?);
-    assert_eq!(rt; status, 1);
-    assert_eq!(rt;
-        machine.warned().as_slice(),
-        b"ql: statement 4097: 10 Later\n".as_slice()
-    );
+    let mut script = tables(rt.alloc(), 4096)?;
+    script.extend(b"CREATE TABLE t0 (a int64);")?;
+    let want = refused(b"ql: statement 4097: 10 Later\n");
+    carry_out(&rt, script.as_slice(), &want)?;
     Ok(())
 }
 
@@ -318,42 +372,58 @@ fn nested(alloc: Global, brackets: u32) -> Result<Bytes, NoMemory> {
     Ok(script)
 }
 
-/// What is warned for a script.
-fn warned(alloc: Global, script: &Bytes) -> Result<Bytes, NoMemory> {
-    let (machine, _) = after(alloc, sound(alloc, script.as_slice())?);
-    bytes(alloc, machine.warned().as_slice())
-}
-
 #[test]
-fn opens_200_brackets_at_most(rt: HostRuntime) -> Result<(), Fail> {
-    let most = warned(rt.alloc(), &nested(rt.alloc(), 200)?)?;
-    assert_eq!(rt; most.as_slice(), b"".as_slice());
-    let (machine, _) = after(
-        rt.alloc(),
-        sound(rt.alloc(), nested(rt.alloc(), 200)?.as_slice())?,
-    );
-    assert_eq!(rt; machine.shown().as_slice(), b"1\n".as_slice());
-    let more = warned(rt.alloc(), &nested(rt.alloc(), 201)?)?;
-    assert_eq!(rt; more.as_slice(), b"ql: byte 207: too nested\n".as_slice());
+fn opens_200_brackets(rt: HostRuntime) -> Result<(), Fail> {
+    let script = nested(rt.alloc(), 200)?;
+    let want = Left {
+        shown: b"1\n",
+        warned: b"",
+        status: 0,
+        faults: 0,
+    };
+    carry_out(&rt, script.as_slice(), &want)?;
     Ok(())
 }
 
 #[test]
-fn shows_many_rows_in_order(rt: HostRuntime) -> Result<(), Fail> {
-    let mut script = bytes(
-        rt.alloc(),
-        b"CREATE TABLE t (a int64); INSERT INTO t VALUES (0)",
-    )?;
-    let mut want = bytes(rt.alloc(), b"0\n")?;
-    for number in 1..30000 {
-        let row = format!(in rt.alloc(); ",({number})")?;
+fn opens_200_brackets_at_most(rt: HostRuntime) -> Result<(), Fail> {
+    let script = nested(rt.alloc(), 201)?;
+    let want = refused(b"ql: byte 207: too nested\n");
+    carry_out(&rt, script.as_slice(), &want)?;
+    Ok(())
+}
+
+/// A script that makes the rows from 0 up to a number, and shows them.
+fn rows(alloc: Global, count: u32) -> Result<Bytes, Fail> {
+    let mut script = bytes(alloc, b"CREATE TABLE t (a int64); INSERT INTO t VALUES (0)")?;
+    for number in 1..count {
+        let row = format!(in alloc; ",({number})")?;
         script.extend(row.as_bytes())?;
-        let line = format!(in rt.alloc(); "{number}\n")?;
-        want.extend(line.as_bytes())?;
     }
     script.extend(b"; SELECT * FROM t;")?;
-    let (machine, status) = after(rt.alloc(), sound(rt.alloc(), script.as_slice())?);
-    assert_eq!(rt; status, 0);
-    assert_eq!(rt; machine.shown().as_slice(), want.as_slice());
+    Ok(script)
+}
+
+/// The numbers from 0 up to a number, a line each.
+fn lines(alloc: Global, count: u32) -> Result<Bytes, Fail> {
+    let mut lines = Bytes::new(alloc);
+    for number in 0..count {
+        let line = format!(in alloc; "{number}\n")?;
+        lines.extend(line.as_bytes())?;
+    }
+    Ok(lines)
+}
+
+#[test]
+fn shows_many_rows_in_order(rt: HostRuntime) -> Result<(), Fail> {
+    let script = rows(rt.alloc(), 30000)?;
+    let shown = lines(rt.alloc(), 30000)?;
+    let want = Left {
+        shown: shown.as_slice(),
+        warned: b"",
+        status: 0,
+        faults: 0,
+    };
+    carry_out(&rt, script.as_slice(), &want)?;
     Ok(())
 }

@@ -1,7 +1,7 @@
 //! Words of the command line.
-use crate::made::sound;
-use ql_edge::{MemMachine, NoMemory};
-use ql_shell::{SCRIPT_LIMIT, code, run};
+use crate::made::{Left, leaves, sound};
+use ql_edge::NoMemory;
+use ql_shell::SCRIPT_LIMIT;
 use std::alloc::Global;
 use std::process::Abort;
 use std::test::Fail;
@@ -86,25 +86,31 @@ fn made(alloc: Global, words: &[&str]) -> Result<Vec<String>, NoMemory> {
     Ok(made)
 }
 
-/// The machine after a run with words, and the exit status.
-fn after(alloc: Global, words: &Vec<String>) -> Result<(MemMachine, u8), NoMemory> {
-    let (machine, status) = run(alloc, words, sound(alloc, INPUT)?);
-    Ok((machine, code(&status)))
+/// Runs words over a machine, and compares what is left.
+fn carry_out(
+    rt: &(impl Abort + Alloc<A = Global>),
+    words: &Vec<String>,
+    want: &Left<'_>,
+) -> Result<(), NoMemory> {
+    leaves(rt, words, sound(rt.alloc(), INPUT)?, want);
+    Ok(())
 }
 
-fn carry_out(rt: &(impl Abort + Alloc<A = Global>), row: &Row) -> Result<(), NoMemory> {
+fn carry_out_row(rt: &(impl Abort + Alloc<A = Global>), row: &Row) -> Result<(), NoMemory> {
     let words = made(rt.alloc(), row.words)?;
-    let (machine, status) = after(rt.alloc(), &words)?;
-    assert_eq!(rt; machine.shown().as_slice(), row.shown);
-    assert_eq!(rt; machine.warned().as_slice(), row.warned);
-    assert_eq!(rt; status, row.status);
-    Ok(())
+    let want = Left {
+        shown: row.shown,
+        warned: row.warned,
+        status: row.status,
+        faults: 0,
+    };
+    carry_out(rt, &words, &want)
 }
 
 #[test]
 fn reads_words(rt: HostRuntime) -> Result<(), Fail> {
     for row in &ROWS {
-        carry_out(&rt, row)?;
+        carry_out_row(&rt, row)?;
     }
     Ok(())
 }
@@ -123,18 +129,26 @@ fn long_words(alloc: Global, spaces: usize) -> Result<Vec<String>, NoMemory> {
 
 #[test]
 fn joins_words_up_to_the_limit(rt: HostRuntime) -> Result<(), Fail> {
-    let most = long_words(rt.alloc(), SCRIPT_LIMIT - 17)?;
-    let (machine, _) = after(rt.alloc(), &most)?;
-    assert_eq!(rt;
-        machine.warned().as_slice(),
-        b"ql: statement 1: 1 NoTable u\n".as_slice()
-    );
-    let more = long_words(rt.alloc(), SCRIPT_LIMIT - 16)?;
-    let (machine, status) = after(rt.alloc(), &more)?;
-    assert_eq!(rt; status, 1);
-    assert_eq!(rt;
-        machine.warned().as_slice(),
-        b"ql: script too long\n".as_slice()
-    );
+    let words = long_words(rt.alloc(), SCRIPT_LIMIT - 17)?;
+    let want = Left {
+        shown: b"",
+        warned: b"ql: statement 1: 1 NoTable u\n",
+        status: 1,
+        faults: 0,
+    };
+    carry_out(&rt, &words, &want)?;
+    Ok(())
+}
+
+#[test]
+fn joins_no_words_over_the_limit(rt: HostRuntime) -> Result<(), Fail> {
+    let words = long_words(rt.alloc(), SCRIPT_LIMIT - 16)?;
+    let want = Left {
+        shown: b"",
+        warned: b"ql: script too long\n",
+        status: 1,
+        faults: 0,
+    };
+    carry_out(&rt, &words, &want)?;
     Ok(())
 }

@@ -1,7 +1,7 @@
 use Rattle.ql_syntax.specs.Readings.{pair, both}
-use Rattle.ql_parse.proofs.SelectLemmas.{same_pair}
-use Rattle.ql_parse.proofs.StepLemmas.{exits}
-use Rattle.ql_parse.proofs.Sequences.{fails_first, fails_second}
+use Rattle.ql_cursor.proofs.Answering.{same_pair}
+use Rattle.ql_cursor.proofs.StepLemmas.{exits}
+use Rattle.ql_cursor.proofs.Sequences.{fails_first, fails_second}
 use Rattle.ql_parse.proofs.alter.quiet_name.Goals as goal
 
 pub returns-in_err-expect_word : goal.returns-in_err-expect_word

@@ -3,8 +3,8 @@ use Rattle.ql_lex.specs.declared.words.Word.TheVariants as w
 use Rattle.ql_syntax.specs.Rules as rule
 use Rattle.ql_syntax.specs.Readings.{pair, left, right, node, both, first, second, by_rule}
 use Rattle.ql_parse.proofs.StatementLemmas.{dropped_table, dropped_index}
-use Rattle.ql_parse.proofs.StepLemmas.{exits}
-use Rattle.ql_parse.proofs.Sequences.{fails_the, fails_first, fails_second, fails_left, fails_right, fails_neither}
+use Rattle.ql_cursor.proofs.StepLemmas.{exits}
+use Rattle.ql_cursor.proofs.Sequences.{fails_the, fails_first, fails_second, fails_left, fails_right, fails_neither}
 use Rattle.ql_parse.proofs.alter.removal.Goals as goal
 
 pub returns-in_err-expect_word : goal.returns-in_err-expect_word

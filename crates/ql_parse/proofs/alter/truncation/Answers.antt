@@ -1,8 +1,8 @@
 use Rattle.std.proofs.Common.{ap}
 use Rattle.ql_syntax.specs.declared.statement.Statement.TheVariants as s
 use Rattle.ql_syntax.specs.Readings.{pair, both}
-use Rattle.ql_parse.proofs.StepLemmas.{exits}
-use Rattle.ql_parse.proofs.Sequences.{fails_first, fails_second}
+use Rattle.ql_cursor.proofs.StepLemmas.{exits}
+use Rattle.ql_cursor.proofs.Sequences.{fails_first, fails_second}
 use Rattle.ql_parse.proofs.alter.truncation.Goals as goal
 
 pub returns-in_err-expect_word : goal.returns-in_err-expect_word

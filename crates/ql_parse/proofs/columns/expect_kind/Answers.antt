@@ -1,6 +1,6 @@
 use Rattle.std.proofs.Common.{ap, ◌∙◌}
-use Rattle.ql_parse.specs.Levels.{kind_of_next}
-use Rattle.ql_parse.proofs.StepLemmas.{gives_token, fails_token}
+use Rattle.ql_cursor.specs.Kinds.{kind_of_next}
+use Rattle.ql_cursor.proofs.StepLemmas.{gives_token, fails_token}
 use Rattle.ql_parse.proofs.columns.expect_kind.Goals as goal
 
 pub returns-in_default : goal.returns-in_default

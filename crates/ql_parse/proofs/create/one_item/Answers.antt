@@ -1,10 +1,10 @@
 use Rattle.std.proofs.Common.{refl, sym, ap, ◌∙◌}
 use Rattle.ql_syntax.specs.Readings.{pair, left, right, group, both, first, second}
 use Rattle.ql_syntax.specs.declared.statement.Item.TheVariants as item
-use Rattle.ql_parse.proofs.Answering.{fails_last, token_seen}
+use Rattle.ql_cursor.proofs.Answering.{fails_last, token_seen}
 use Rattle.ql_parse.proofs.StatementLemmas.{taken_before}
-use Rattle.ql_parse.proofs.StepLemmas.{exits}
-use Rattle.ql_parse.proofs.Sequences.{fails_second, fails_left}
+use Rattle.ql_cursor.proofs.StepLemmas.{exits}
+use Rattle.ql_cursor.proofs.Sequences.{fails_second, fails_left}
 use Rattle.ql_parse.proofs.create.one_item.Goals as goal
 
 pub returns-in_err-in_brackets : goal.returns-in_err-in_brackets

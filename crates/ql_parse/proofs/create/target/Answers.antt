@@ -1,9 +1,9 @@
 use Rattle.std.proofs.Common.{◌∙◌}
 use Rattle.ql_syntax.specs.Readings.{pair, group, both}
-use Rattle.ql_parse.proofs.SelectLemmas.{same_pair}
+use Rattle.ql_cursor.proofs.Answering.{same_pair}
 use Rattle.ql_parse.proofs.StatementLemmas.{enclosed_item}
-use Rattle.ql_parse.proofs.StepLemmas.{exits}
-use Rattle.ql_parse.proofs.Sequences.{fails_first, fails_second}
+use Rattle.ql_cursor.proofs.StepLemmas.{exits}
+use Rattle.ql_cursor.proofs.Sequences.{fails_first, fails_second}
 use Rattle.ql_parse.proofs.create.target.Goals as goal
 
 pub returns-in_err-expect_word : goal.returns-in_err-expect_word

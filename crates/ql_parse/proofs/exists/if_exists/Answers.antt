@@ -1,7 +1,7 @@
 use Rattle.std.proofs.Common.{refl, sym, ◌∙◌}
 use Rattle.ql_syntax.specs.Readings.{pair, absent, present, both, left_out, entered}
-use Rattle.ql_parse.proofs.StepLemmas.{exits, taken}
-use Rattle.ql_parse.proofs.Sequences.{fails_second, fails_part}
+use Rattle.ql_cursor.proofs.StepLemmas.{exits, taken}
+use Rattle.ql_cursor.proofs.Sequences.{fails_second, fails_part}
 use Rattle.ql_parse.proofs.exists.if_exists.Goals as goal
 
 pub returns-then-not-sees_word : goal.returns-then-not-sees_word

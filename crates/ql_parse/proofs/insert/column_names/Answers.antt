@@ -2,7 +2,7 @@ use Rattle.std.proofs.Common.{refl, sym, ◌∙◌}
 use Rattle.ql_syntax.specs.Rules.{list, name}
 use Rattle.ql_syntax.specs.Readings.{absent, left_out}
 use Rattle.ql_syntax.specs.Statements.{names_of}
-use Rattle.ql_parse.proofs.Answering.{part_answers, group_answers}
+use Rattle.ql_cursor.proofs.Answering.{part_answers, group_answers}
 use Rattle.ql_parse.proofs.insert.column_names.Goals as goal
 
 pub returns-then-not-sees_mark : goal.returns-then-not-sees_mark

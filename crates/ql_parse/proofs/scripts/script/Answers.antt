@@ -2,7 +2,7 @@ use Rattle.std.proofs.Common.{◌≡◌, sym, ◌∙◌, length}
 use Rattle.ql_lex.proofs.PlaceLemmas.{whole_in}
 use Rattle.ql_parse.specs.declared.fault.ParseFault.TheVariants as p
 use Rattle.ql_syntax.specs.Lexemes.{lexemes}
-use Rattle.ql_parse.specs.Parses.{Gives, Fails}
+use Rattle.ql_cursor.specs.Parses.{Gives, Fails}
 use Rattle.ql_syntax.specs.Rules as rule
 use Rattle.ql_syntax.specs.Scripts.{limit}
 use Rattle.ql_syntax.specs.Statements.{statements_of}

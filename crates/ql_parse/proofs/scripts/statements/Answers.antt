@@ -1,7 +1,7 @@
 use Rattle.std.proofs.Common.{arith}
-use Rattle.ql_parse.proofs.StepLemmas.{exits}
+use Rattle.ql_cursor.proofs.StepLemmas.{exits}
 use Rattle.ql_parse.proofs.ScriptLemmas.{gives_script, fails_left, none_left}
-use Rattle.ql_parse.proofs.Sequences.{fails_first, fails_second}
+use Rattle.ql_cursor.proofs.Sequences.{fails_first, fails_second}
 use Rattle.ql_parse.proofs.scripts.statements.Goals as goal
 
 pub returns-in_err-first : goal.returns-in_err-first

@@ -1,0 +1,5 @@
+pub mod SelectLemmas
+pub mod PredicateLemmas
+pub mod CallLemmas
+pub mod PrimaryLemmas
+pub mod ChainLemmas
