@@ -9,9 +9,8 @@ ghost use Rattle.ql_syntax.specs.StatementPrinting.{ink_of_option};
 ghost use Rattle.ql_syntax.specs.StoredParts.{ExprsReadBack};
 
 use crate::spelling::{
-    add_alias, add_column_ref, add_ops, between_bytes, comma_before, direction_bytes,
-    in_bytes, join_bytes, kind_bytes, null_bytes, operator_bytes, put, select_bytes,
-    truth_bytes,
+    add_alias, add_column_ref, add_ops, between_bytes, comma_before, direction_bytes, in_bytes,
+    join_bytes, kind_bytes, null_bytes, operator_bytes, put, select_bytes, truth_bytes,
 };
 use ql_edge::{Boxed, Bytes, NoMemory};
 use ql_syntax::{
