@@ -19,11 +19,11 @@ use crate::expression::check_expr;
 use crate::from::{is_metadata, table_named};
 use crate::select::row_scope;
 use ql_edge::{Name, Names, NoMemory, Numbers};
-use ql_rel::{Checked, CheckedList, Index, Indexes, Plan, RESERVED, Schema, Scope, Slots};
+use ql_rel::{Checked, CheckedList, Index, Indexes, Plan, Schema, Scope, Slots};
 use ql_syntax::{
     ColumnDef, ColumnDefs, ExprRows, Exprs, RowSource, Typed, TypedRows, Typeds, Typing,
 };
-use ql_value::{COUNT, Kind, LATER, NO_TABLE, Refusal};
+use ql_value::{COUNT, Kind, LATER, NO_TABLE, RESERVED, Refusal};
 use std::alloc::Global;
 
 /// The type, where its kind is this one.

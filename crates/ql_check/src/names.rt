@@ -9,8 +9,8 @@ ghost use Rattle.ql_check.specs.NameSets.{HoldsNames};
 
 use crate::CheckFault;
 use ql_edge::NoMemory;
-use ql_rel::{Indexes, RESERVED, Schema, TableSchemas};
-use ql_value::{EXISTS, Refusal};
+use ql_rel::{Indexes, Schema, TableSchemas};
+use ql_value::{EXISTS, RESERVED, Refusal};
 use std::alloc::Global;
 use std::collections::BTreeSet;
 

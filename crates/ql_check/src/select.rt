@@ -117,6 +117,20 @@ fn source_of(alloc: Global, schema: &Schema, select: &Select) -> Result<Source, 
     })
 }
 
+/// ORDER BY, behind the fields.
+fn keys_of(
+    alloc: Global,
+    hides: bool,
+    scope: Scope,
+    fields: &ResultFields,
+    keys: &Exprs,
+) -> Result<Typeds, CheckFault>
+    ensures { Gives (spec.resolve_each (spec.key_scope hides scope fields.now) keys.now) result }
+{
+    let scope = key_scope(alloc, hides, scope, fields)?;
+    resolve_each(alloc, &scope, keys)
+}
+
 /// The fields, then ORDER BY.
 fn output_of(
     alloc: Global,
@@ -128,8 +142,8 @@ fn output_of(
 {
     let fields = fields_of(alloc, &scope, &select.fields)?;
     let grouped = grouped || any_aggregate(fields.as_slice());
-    let scope = key_scope(alloc, select.distinct || grouped, scope, &fields)?;
-    let keys = resolve_each(alloc, &scope, &select.keys)?;
+    let hides = select.distinct || grouped;
+    let keys = keys_of(alloc, hides, scope, &fields, &select.keys)?;
     Ok(Output {
         fields,
         grouped,

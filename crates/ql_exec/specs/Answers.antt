@@ -8,7 +8,7 @@ use Rattle.ql_syntax.specs.Typing.{WellTyped}
 use Rattle.ql_rel.specs.Answers.{Answer}
 use Rattle.ql_rel.specs.declared.fault.RelFault.{RelFault}
 use Rattle.ql_rel.specs.declared.fault.RelFault.TheVariants as rel
-use Rattle.ql_rel.specs.declared.number.TheConstants.{ROW_TOO_LONG, KEY_TOO_LONG, IDS_SPENT, TABLE_LIMIT_REFUSAL}
+use Rattle.ql_value.specs.declared.refusal.TheConstants.{ROW_TOO_LONG, KEY_TOO_LONG, IDS_SPENT, TABLE_LIMIT_REFUSAL}
 use Rattle.ql_check.specs.declared.fault.CheckFault.{CheckFault}
 use Rattle.ql_check.specs.declared.fault.CheckFault.TheVariants as check
 use Rattle.ql_exec.specs.declared.fault.ExecFault.{ExecFault}

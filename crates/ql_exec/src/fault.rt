@@ -8,8 +8,8 @@ ghost use Rattle.ql_exec.specs.declared.fault.ExecFault.TheVariants as variant;
 use lldb_base::Trouble;
 use ql_check::CheckFault;
 use ql_edge::NoMemory;
-use ql_rel::{IDS_SPENT, KEY_TOO_LONG, ROW_TOO_LONG, RelFault, TABLE_LIMIT_REFUSAL};
-use ql_value::Refusal;
+use ql_rel::RelFault;
+use ql_value::{IDS_SPENT, KEY_TOO_LONG, ROW_TOO_LONG, Refusal, TABLE_LIMIT_REFUSAL};
 use std::alloc::Global;
 
 /// Why a statement was not carried out.

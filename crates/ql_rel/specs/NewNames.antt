@@ -2,7 +2,7 @@
 use Rattle.std.specs.Prelude.{ℕ, suc, if◌then◌else◌, List, [], ◌∷◌, Option, Some, None, Ok}
 use Rattle.std.specs.Str.{bytes_eq}
 use Rattle.ql_value.specs.declared.refusal.TheConstants.{NO_TABLE, EXISTS}
-use Rattle.ql_rel.specs.declared.number.TheConstants.{RESERVED}
+use Rattle.ql_value.specs.declared.refusal.TheConstants.{RESERVED}
 use Rattle.ql_rel.specs.declared.schema.Schema.{Schema}
 use Rattle.ql_rel.specs.declared.schema.TableSchema.{TableSchema}
 use Rattle.ql_rel.specs.Accepted.{is_reserved}

@@ -56,8 +56,11 @@ entries : List Entry
 entries =
     record { number = 1; word = codes "NoTable" } ∷ record { number = 2; word = codes "NoColumn" } ∷ record { number = 3; word = codes "Ambiguous" }
     ∷ record { number = 4; word = codes "Exists" } ∷ record { number = 5; word = codes "Type" } ∷ record { number = 6; word = codes "Count" }
-    ∷ record { number = 7; word = codes "ConstantRange" } ∷ record { number = 8; word = codes "Aggregate" } ∷ record { number = 10; word = codes "Later" }
-    ∷ record { number = 20; word = codes "Divide" } ∷ record { number = 21; word = codes "Range" } ∷ record { number = 22; word = codes "NegativeCount" } ∷ []
+    ∷ record { number = 7; word = codes "ConstantRange" } ∷ record { number = 8; word = codes "Aggregate" } ∷ record { number = 9; word = codes "Reserved" }
+    ∷ record { number = 10; word = codes "Later" }
+    ∷ record { number = 20; word = codes "Divide" } ∷ record { number = 21; word = codes "Range" } ∷ record { number = 22; word = codes "NegativeCount" }
+    ∷ record { number = 33; word = codes "RowTooLong" } ∷ record { number = 34; word = codes "KeyTooLong" } ∷ record { number = 35; word = codes "IdsSpent" }
+    ∷ record { number = 36; word = codes "TableLimit" } ∷ []
 
 each_word : AllByRecursion (λ number. refusal_word number ≢ []) refusal_numbers
 each_word = search rules

@@ -26,8 +26,9 @@ pub use operator::{BinOp, UnOp, UnOps};
 pub use order::compare;
 pub use print::{print_number, print_text, print_value};
 pub use refusal::{
-    AGGREGATE, AMBIGUOUS, CONSTANT_RANGE, COUNT, DIVIDE, EXISTS, LATER, NEGATIVE_COUNT, NO_COLUMN,
-    NO_TABLE, RANGE, Refusal, TYPE,
+    AGGREGATE, AMBIGUOUS, CONSTANT_RANGE, COUNT, DIVIDE, EXISTS, IDS_SPENT, KEY_TOO_LONG, LATER,
+    NEGATIVE_COUNT, NO_COLUMN, NO_TABLE, RANGE, RESERVED, ROW_TOO_LONG, Refusal,
+    TABLE_LIMIT_REFUSAL, TYPE,
 };
 pub use row::encode_row;
 pub use row_reading::{Kinds, decode_row};

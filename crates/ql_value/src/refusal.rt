@@ -30,6 +30,10 @@ pub const CONSTANT_RANGE: u8 = 7;
 /// The refusal of an aggregate where none may stand. It names nothing.
 pub const AGGREGATE: u8 = 8;
 
+/// The refusal of a new name that begins with two underscores, and of a change to a set that describes the database
+/// itself. It shows the name.
+pub const RESERVED: u8 = 9;
+
 /// The refusal of a statement that is not carried out yet. It names nothing.
 pub const LATER: u8 = 10;
 
@@ -41,6 +45,18 @@ pub const RANGE: u8 = 21;
 
 /// The refusal of a shift count that is negative. It names nothing.
 pub const NEGATIVE_COUNT: u8 = 22;
+
+/// The refusal of a row that is too long. It names nothing.
+pub const ROW_TOO_LONG: u8 = 33;
+
+/// The refusal of a value that is too long as a key of an index. It shows the index's name.
+pub const KEY_TOO_LONG: u8 = 34;
+
+/// The refusal of a row for which no id is left. It names nothing.
+pub const IDS_SPENT: u8 = 35;
+
+/// The refusal of a table, an index, a column, a rule or a default past the limits of a schema. It names nothing.
+pub const TABLE_LIMIT_REFUSAL: u8 = 36;
 
 /// Why a statement was refused.
 #[derive(Debug, Drop)]
@@ -83,10 +99,15 @@ impl Refusal {
             COUNT => b"Count",
             CONSTANT_RANGE => b"ConstantRange",
             AGGREGATE => b"Aggregate",
+            RESERVED => b"Reserved",
             LATER => b"Later",
             DIVIDE => b"Divide",
             RANGE => b"Range",
             NEGATIVE_COUNT => b"NegativeCount",
+            ROW_TOO_LONG => b"RowTooLong",
+            KEY_TOO_LONG => b"KeyTooLong",
+            IDS_SPENT => b"IdsSpent",
+            TABLE_LIMIT_REFUSAL => b"TableLimit",
             _ => b"",
         }
     }
