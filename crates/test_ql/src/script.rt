@@ -47,13 +47,13 @@ const ROWS: [Row; 13] = [
     Row {
         script: b"CREATE TABLE t (a int64); INSERT INTO t VALUES (1, 2);",
         shown: b"",
-        warned: b"ql: statement 2: 10 Later\n",
+        warned: b"ql: statement 2: 6 Count\n",
         status: 1,
     },
     Row {
         script: b"SELECT * FROM t WHERE nosuch;",
         shown: b"",
-        warned: b"ql: statement 1: 10 Later\n",
+        warned: b"ql: statement 1: 1 NoTable t\n",
         status: 1,
     },
     Row {
@@ -65,7 +65,7 @@ const ROWS: [Row; 13] = [
     Row {
         script: b"CREATE TABLE t (a int64); ; SELECT * FROM t; INSERT INTO u VALUES (9223372036854775808);",
         shown: b"",
-        warned: b"ql: statement 3: 10 Later\n",
+        warned: b"ql: statement 3: 1 NoTable u\n",
         status: 1,
     },
     Row {
@@ -176,7 +176,7 @@ const EXPRESSIONS: [Row; 15] = [
     Row {
         script: b"SELECT count(), nosuch;",
         shown: b"",
-        warned: b"ql: statement 1: 10 Later\n",
+        warned: b"ql: statement 1: 2 NoColumn nosuch\n",
         status: 1,
     },
     Row {
@@ -300,7 +300,7 @@ fn makes_4096_tables_at_most(rt: HostRuntime) -> Result<(), Fail> {
     assert_eq!(rt; status, 1);
     assert_eq!(rt;
         machine.warned().as_slice(),
-        b"ql: statement 4097: 10 Later\n".as_slice()
+        b"ql: statement 4097: 4 Exists t0\n".as_slice()
     );
     Ok(())
 }
