@@ -1,12 +1,10 @@
 pub mod Examples
 pub mod Existence
-pub mod NoTables
 pub mod Giving
 pub mod Lines
 pub mod Meanings
-pub mod Numbers
 pub mod Outcomes
 pub mod Pieces
-pub mod Places
+pub mod Stepping
 pub mod Taking
 pub mod Warning

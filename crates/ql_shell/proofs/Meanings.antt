@@ -3,8 +3,7 @@ use Rattle.std.proofs.Common.{◌≡◌, ℕ, ◌<◌, List, [], length, Option,
 use Rattle.ql_edge.specs.Told.{Told, with_shown}
 use Rattle.ql_syntax.specs.declared.statement.Statement.{Statement}
 use Rattle.ql_shell.specs.Comes.{Comes, too_long, bad_byte, bad_literal, unclosed, unexpected, too_nested, read, read_as, longest_script}
-use Rattle.ql_rel.specs.Meaning.{meaning}
-use Rattle.ql_shell.specs.Meaning.{Answer, answered, answer_of, told_script, Means, usage, script}
+use Rattle.ql_shell.specs.Meaning.{Answer, answered, answer_of, course_of, told_script, Means, usage, script}
 use Rattle.ql_shell.specs.Run.{Gives, IsFinal, IsUnread, IsScript, IsTooLong, EndsEarly, TellsScript}
 use Rattle.ql_shell.specs.declared.status.ScriptFault.{ScriptFault}
 use Rattle.ql_shell.specs.declared.status.ScriptFault.TheVariants as fault
@@ -117,7 +116,7 @@ means_early asked input (Refused _ _) ends tells final = absurd ends
 
 -- statements that were read are what the script comes to
 pub gives_read : (ss : List Statement) (outcome : Result (List Statement) ScriptFault) (s : Status) (before now : Told)
-    → IsAnswer (Ok ss) (read_as outcome) → Gives (answered (meaning 1 ss [])) s before now → Gives (answer_of outcome) s before now
+    → IsAnswer (Ok ss) (read_as outcome) → Gives (answered (course_of ss)) s before now → Gives (answer_of outcome) s before now
 gives_read ss (Ok other) s before now (inl e) given = let same : ss ≡ other = cc in rw same at given
 gives_read ss (Err f) s before now (inl e) given = cc
 gives_read ss outcome s before now (inr e) given = cc

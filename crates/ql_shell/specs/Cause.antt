@@ -12,8 +12,6 @@ use Rattle.ql_shell.specs.Comes.{place_of}
 use Rattle.ql_shell.specs.declared.status.ScriptFault.TheVariants as fault
 use Rattle.ql_shell.specs.declared.status.Status.{Status}
 use Rattle.ql_shell.specs.declared.status.Status.TheVariants as status
-use Rattle.ql_shell.specs.declared.fault.StepFault.{StepFault}
-use Rattle.ql_shell.specs.declared.fault.StepFault.TheVariants as step
 
 -- the status of a run that a device's fault ends
 abbrev pub status_of : DeviceFault → Status
@@ -33,11 +31,6 @@ status_of_parsing source tokens (parse.Unexpected at) = status.Script (fault.Une
 status_of_parsing source tokens (parse.TooNested at) = status.Script (fault.TooNested (place_of source tokens at))
 status_of_parsing source tokens parse.NoMemory = status.NoMemory
 
--- the status of a run that a statement of a number stops
-abbrev pub stopped_by : ℕ → StepFault → Status
-stopped_by number (step.Refused refusal) = status.Refused number refusal
-stopped_by number (step.Device fault) = status_of fault
-
 -- `Fault` comes only where the count rose, and every other status leaves the count
 abbrev pub IsCausedStatus : Status → ℕ → ℕ → Type 0
 IsCausedStatus status.Done before now = now ≡ before
@@ -51,10 +44,3 @@ IsCausedStatus status.NoMemory before now = now ≡ before
 abbrev pub IsCausedReading : {T : Type 0} → Result T Status → ℕ → ℕ → Type 0
 IsCausedReading (Ok _) before now = now ≡ before
 IsCausedReading (Err s) before now = IsCausedStatus s before now
-
--- the same of a statement
-abbrev pub IsCausedStep : {T : Type 0} → Result T StepFault → ℕ → ℕ → Type 0
-IsCausedStep (Ok _) before now = now ≡ before
-IsCausedStep (Err (step.Refused _)) before now = now ≡ before
-IsCausedStep (Err (step.Device device.Failed)) before now = Rose before now
-IsCausedStep (Err (step.Device device.NoMemory)) before now = now ≡ before

@@ -1,10 +1,9 @@
-pub mod Answers
 pub mod Cause
 pub mod Code
 pub mod Comes
 pub mod Line
 pub mod Meaning
-pub mod Plain
 pub mod Pieces
 pub mod Run
+pub mod Steps
 pub mod Words

@@ -1,8 +1,10 @@
 -- What a script is to show and answer.
-use Rattle.std.specs.Prelude.{◌≡◌, ℕ, List, [], Option, Some, None, Result, Ok, Err}
+use Rattle.std.specs.Prelude.{◌≡◌, ℕ, false, List, [], Option, Some, None, Result, Ok, Err}
 use Rattle.ql_syntax.specs.declared.statement.Statement.{Statement}
 use Rattle.ql_shell.specs.Comes.{Comes}
-use Rattle.ql_rel.specs.Meaning.{Ending, done, stopped, Meaning, meaning}
+use Rattle.ql_rel.specs.Courses.{course}
+use Rattle.ql_rel.specs.Databases.{empty_db}
+use Rattle.ql_rel.specs.Events.{Closing, completed, refused_in, Course, shown_text}
 use Rattle.ql_shell.specs.declared.status.ScriptFault.{ScriptFault}
 use Rattle.ql_shell.specs.declared.status.Status.{Status}
 use Rattle.ql_shell.specs.declared.status.Status.TheVariants.{Done, Script, Refused, Usage}
@@ -15,17 +17,21 @@ pub record Answer : Type 0 where
   pub status : Status
 
 -- the status after statements, by how they end
-abbrev pub status_after : Ending → Status
-status_after done = Done
-status_after (stopped number refusal) = Refused number refusal
+abbrev pub status_after : Closing → Status
+status_after completed = Done
+status_after (refused_in number refusal) = Refused number refusal
 
 -- what statements mean, as an answer
-abbrev pub answered : Meaning → Answer
-answered m = record { text = m.text; status = status_after m.ending }
+abbrev pub answered : Course → Answer
+answered c = record { text = shown_text c.events; status = status_after c.closing }
+
+-- what the statements of a script mean: from no tables on, without the names of fields and without a line for each commit
+abbrev pub course_of : List Statement → Course
+course_of ss = course false false 1 ss empty_db
 
 -- what a script answers by what it comes to: its statements from no tables, or its fault
 abbrev pub answer_of : Result (List Statement) ScriptFault → Answer
-answer_of (Ok ss) = answered (meaning 1 ss [])
+answer_of (Ok ss) = answered (course_of ss)
 answer_of (Err fault) = record { text = []; status = Script fault }
 
 -- the script that is carried out: the words' own, or what standard input has, where that is told

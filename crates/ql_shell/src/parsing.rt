@@ -1,8 +1,9 @@
 //! From the bytes of a script to its statements.
-ghost use Rattle.std.specs.Prelude.{◌≡◌, ◌⊎◌, ◌≤◌, List, Result, Ok, Err, IfOk, IfErr, length};
+ghost use Rattle.std.specs.Prelude.{◌≡◌, ◌⊎◌, ◌≤◌, All, List, Result, Ok, Err, IfOk, IfErr, length};
 ghost use Rattle.ql_lex.specs.Tokens.{Reads};
 ghost use Rattle.ql_lex.specs.declared.token.Token.{Token};
 ghost use Rattle.ql_syntax.specs.declared.statement.Statement.{Statement};
+ghost use Rattle.ql_syntax.specs.ReadsBack.{IsReadBack};
 ghost use Rattle.ql_shell.specs.Cause.{status_of_lexing, status_of_parsing};
 ghost use Rattle.ql_shell.specs.Comes as spec;
 ghost use Rattle.ql_shell.specs.Comes.{Comes, longest_script, read_as};
@@ -64,12 +65,13 @@ fn parsing_fault(alloc: Global, source: &[u8], fault: ParseFault) -> Result<Scri
     }
 }
 
-/// Reads the statements of a script that is not too long.
+/// Reads the statements of a script that is not too long. What each of them prints is read as it again.
 pub fn read_statements(alloc: Global, source: &[u8]) -> Result<Statements, Status>
     requires { length source.now ≤ longest_script }
     ensures read { IfOk result (λ ss. Comes source.now (Ok ss)) }
     ensures fault { (f : ScriptFault) → result ≡ Err (status.Script f) → Comes source.now (Err f) }
     ensures unread { IfErr result IsUnread }
+    ensures read_back { IfOk result (All IsReadBack) }
 
     // What the script comes to is the answer, unless memory runs out.
     ensures only { (outcome : Result (List Statement) ScriptFault) → Comes source.now outcome

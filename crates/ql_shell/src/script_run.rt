@@ -1,16 +1,18 @@
 //! A run: what the words ask for, carried out and warned of.
-ghost use Rattle.std.specs.Prelude.{◌≡◌, ◌⊎◌, ℕ, ◌+◌, ◌<◌, ◌≤◌, List, [], length, map, Option, Result, Err, IfOk, IfErr, OnOk};
+ghost use Rattle.std.specs.Prelude.{◌≡◌, ◌⊎◌, ℕ, ◌+◌, ◌<◌, ◌≤◌, All, IsTrue, false, List, length, map, Option, Result, Err, IfOk, IfErr, IfSome, OnOk};
 ghost use Rattle.std.specs.String.{string_bytes};
 ghost use Rattle.ql_edge.specs.Cause.{Rose};
 ghost use Rattle.ql_edge.specs.Frame.{Keeps};
 ghost use Rattle.ql_edge.specs.Told.{shown_of, warned_of};
 ghost use Rattle.ql_syntax.specs.declared.statement.Statement.{Statement};
-ghost use Rattle.ql_shell.specs.Cause.{IsCausedReading, IsCausedStatus, stopped_by};
+ghost use Rattle.ql_syntax.specs.ReadsBack.{IsReadBack};
+ghost use Rattle.ql_shell.specs.Cause.{IsCausedReading, IsCausedStatus};
 ghost use Rattle.ql_shell.specs.Comes.{Comes, longest_script};
-ghost use Rattle.ql_rel.specs.Meaning.{meaning};
-ghost use Rattle.ql_shell.specs.Meaning.{Answer, answer_of, answered, Means};
+ghost use Rattle.ql_rel.specs.Courses.{course};
+ghost use Rattle.ql_shell.specs.Meaning.{Answer, answer_of, answered, course_of, Means};
 ghost use Rattle.ql_shell.specs.Pieces.{ShowsText};
 ghost use Rattle.ql_shell.specs.Run.{IsFinal, Gives, Warns, IsFrontShown, IsAddedTo, IsShown, IsRefusedWhole, EndsEarly, EndsScript, EndsStatements, IsScript, TellsScript, Takes, TakesAll, TakesAtMost};
+ghost use Rattle.ql_shell.specs.Steps.{EndsBy, MayEnd, MayStop, StopsBy};
 ghost use Rattle.ql_shell.specs.Words.{command_of};
 ghost use Rattle.ql_shell.specs.declared.status.ScriptFault.{ScriptFault};
 ghost use Rattle.ql_shell.specs.declared.status.ScriptFault.TheVariants as fault;
@@ -23,44 +25,103 @@ use crate::parsing::read_statements;
 use crate::reading::read_script;
 use crate::status::{ScriptFault, Status};
 use crate::step::step;
-use crate::tables::Tables;
 use crate::words::{Command, read_words};
+use lldb_base::Trouble;
 use ql_edge::{Bytes, Machine, Shows};
+use ql_mem_rel::MemRel;
+use ql_rel::{Rel, event_laws};
 use ql_syntax::Statements;
 use std::alloc::Global;
 
 /// How many bytes a script has at most.
 pub const SCRIPT_LIMIT: usize = 16_777_216;
 
+/// The status of a run that a trouble ends.
+fn trouble_status(trouble: Trouble) -> Status
+    requires { MayEnd trouble }
+    ensures { EndsBy trouble result }
+{
+    match trouble {
+        Trouble::Failed => Status::Fault,
+        Trouble::NoMemory => Status::NoMemory,
+        Trouble::Full { .. } => unreachable!(),
+        Trouble::Damaged => unreachable!(),
+    }
+}
+
 /// The status of a run that a statement of this number stopped.
 fn stop_status(statement: u64, fault: StepFault) -> Status
-    ensures { result ≡ stopped_by statement fault }
+    requires { MayStop fault }
+    ensures { StopsBy statement fault result }
 {
     match fault {
         StepFault::Refused(refusal) => Status::Refused { statement, refusal },
-        StepFault::Device(fault) => Status::from(fault),
+        StepFault::Trouble(trouble) => trouble_status(trouble),
     }
+}
+
+/// Commits the level behind the last statement.
+fn commit(rel: &mut MemRel) -> Status
+    requires ready { IsTrue (⟦<MemRel as Rel>⟧.is_ready rel.old) }
+    requires level { 0 < length (⟦<MemRel as Rel>⟧.saved rel.old) }
+    ensures { (result ≡ ended.Done) ⊎ (result ≡ ended.NoMemory) }
+{
+    match rel.commit() {
+        Ok(()) => Status::Done,
+        Err(trouble) => trouble_status(trouble),
+    }
+}
+
+/// Carries out statements in turn inside a level, up to the first that is refused. Then the level is rolled back, and behind
+/// the last statement it is committed.
+fn carry_on<M: Shows>(
+    alloc: Global,
+    rel: &mut MemRel,
+    machine: &mut M,
+    statements: Statements,
+) -> Status
+    requires ready { IsTrue (⟦<MemRel as Rel>⟧.is_ready rel.old) }
+    requires level { 0 < length (⟦<MemRel as Rel>⟧.saved rel.old) }
+    requires read { All IsReadBack statements }
+    ensures gives { IfSome (⟦<MemRel as Rel>⟧.db rel.old) (λ d.
+        Gives (answered (course false false 1 statements d)) result (M.told machine.old)
+        (M.told machine.new)) }
+    ensures ends { EndsStatements result }
+    ensures frame { Keeps M.left M.fixed machine.old machine.new }
+    ensures cause { IsCausedStatus result (M.faults machine.old) (M.faults machine.new) }
+{
+    event_laws();
+    let mut number = 0;
+    'statements: for statement in statements.into_vec() {
+        number += 1;
+        let done = step(alloc, rel, machine, &statement);
+        drop(statement);
+        match done {
+            Ok(()) => {}
+            Err(fault) => {
+                rel.rollback();
+                return stop_status(number, fault);
+            }
+        }
+    }
+    commit(rel)
 }
 
 /// Carries out statements in turn, from no tables, up to the first that is refused.
 fn carry_out<M: Shows>(alloc: Global, machine: &mut M, statements: Statements) -> Status
-    ensures gives { Gives (answered (meaning 1 statements [])) result (M.told machine.old)
+    requires { All IsReadBack statements }
+    ensures gives { Gives (answered (course_of statements)) result (M.told machine.old)
         (M.told machine.new) }
     ensures warned { warned_of (M.told machine.new) ≡ warned_of (M.told machine.old) }
     ensures ends { EndsStatements result }
     ensures frame { Keeps M.left M.fixed machine.old machine.new }
     ensures cause { IsCausedStatus result (M.faults machine.old) (M.faults machine.new) }
 {
-    let mut tables = Tables::new(alloc);
-    let mut number = 0;
-    'statements: for statement in statements.into_vec() {
-        number += 1;
-        match step(alloc, &mut tables, machine, &statement) {
-            Ok(()) => {}
-            Err(fault) => return stop_status(number, fault),
-        }
+    let mut rel = MemRel::new(alloc);
+    match rel.begin() {
+        Ok(()) => carry_on(alloc, &mut rel, machine, statements),
+        Err(_) => Status::NoMemory,
     }
-    Status::Done
 }
 
 /// Carries out a script that is not too long. Its bytes are let go before its first statement is carried out.

@@ -46,13 +46,13 @@ const ROWS: [Row; 13] = [
     Row {
         script: b"CREATE TABLE t (a int64); INSERT INTO t VALUES (1, 2);",
         shown: b"",
-        warned: b"ql: statement 2: 10 Later\n",
+        warned: b"ql: statement 2: 6 Count\n",
         status: 1,
     },
     Row {
         script: b"SELECT * FROM t WHERE nosuch;",
         shown: b"",
-        warned: b"ql: statement 1: 10 Later\n",
+        warned: b"ql: statement 1: 1 NoTable t\n",
         status: 1,
     },
     Row {
@@ -64,7 +64,7 @@ const ROWS: [Row; 13] = [
     Row {
         script: b"CREATE TABLE t (a int64); ; SELECT * FROM t; INSERT INTO u VALUES (9223372036854775808);",
         shown: b"",
-        warned: b"ql: statement 3: 10 Later\n",
+        warned: b"ql: statement 3: 1 NoTable u\n",
         status: 1,
     },
     Row {
@@ -175,7 +175,7 @@ const EXPRESSIONS: [Row; 15] = [
     Row {
         script: b"SELECT count(), nosuch;",
         shown: b"",
-        warned: b"ql: statement 1: 10 Later\n",
+        warned: b"ql: statement 1: 2 NoColumn nosuch\n",
         status: 1,
     },
     Row {
@@ -353,8 +353,8 @@ fn makes_4096_tables(rt: HostRuntime) -> Result<(), Fail> {
 #[test]
 fn makes_4096_tables_at_most(rt: HostRuntime) -> Result<(), Fail> {
     let mut script = tables(rt.alloc(), 4096)?;
-    script.extend(b"CREATE TABLE t0 (a int64);")?;
-    let want = refused(b"ql: statement 4097: 10 Later\n");
+    script.extend(b"CREATE TABLE u (a int64);")?;
+    let want = refused(b"ql: statement 4097: 36 TableLimit\n");
     carry_out(&rt, script.as_slice(), &want)?;
     Ok(())
 }

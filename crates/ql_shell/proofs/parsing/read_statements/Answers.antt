@@ -1,4 +1,5 @@
 use Rattle.std.proofs.Common.{◌≡◌, Ok, Err, sym, ap, ◌∙◌}
+use Rattle.ql_print.proofs.ReadBack.{read_back_laws}
 use Rattle.ql_shell.specs.Comes.{read, read_as}
 use Rattle.ql_shell.specs.declared.status.Status.TheVariants.{Script}
 use Rattle.ql_shell.proofs.Outcomes.{lexing_fault, parsing_fault, parsing_only, parsing_stopped}
@@ -30,3 +31,6 @@ returns-in_ok-parsing_fault-in-Err-script-clause-only c outcome comes =
     (c.in_ok-parsing_fault-in-Err-script.ensures c.in-Ok.tokens c.in-Ok.ensures.read)
     (parsing_only c.args.source.now c.in-Ok.tokens (Err c.in-Err-script.fault) outcome c.requires c.in-Ok.ensures.only
     c.in-Err-script.ensures.just_read c.in-Err-script.ensures.just_unexpected c.in-Err-script.ensures.just_nested comes)
+
+pub returns-in-Ok-script-clause-read_back : goal.returns-in-Ok-script-clause-read_back
+returns-in-Ok-script-clause-read_back c = read_back_laws.statements c.args.source.now c.in-Ok.tokens c.in-Ok-script.statements c.in-Ok.ensures.read c.in-Ok-script.ensures.read
