@@ -14,7 +14,7 @@ use Rattle.ql_rel.specs.NewNames.{new_name, free_table, known_table}
 use Rattle.ql_rel.specs.PlanTypes.{PlanTyped, row_types}
 use Rattle.ql_rel.specs.StatementPlans.{statement_plan}
 use Rattle.ql_rel.proofs.Fits.{then_ok, same_ok}
-use Rattle.ql_rel.proofs.SelectFits.{plan_typed}
+use Rattle.ql_rel.proofs.SelectFits.{select_typed}
 use Rattle.ql_check.specs.declared.fault.CheckFault.{CheckFault}
 use Rattle.ql_check.specs.Gives.{Gives}
 use Rattle.ql_check.specs.Inserts.{table_plan}
@@ -39,7 +39,7 @@ create_typed schema name columns p e =
     subst (PlanTyped []) (same_ok no_parts p made.2) (record { filter = tt; groups = tt; fields = λ _. tt; group_fields = tt; keys = tt; limit = tt; offset = tt })
 
 statement_typed : (schema : Schema) (statement : Statement) (p : Plan) → statement_plan schema statement ≡ Ok p → PlanTyped (row_types schema statement) p
-statement_typed schema (s.Query select) p e = plan_typed schema (s.Query select) p e
+statement_typed schema (s.Query select) p e = select_typed schema select p e
 statement_typed schema (s.CreateTable false name columns) p e = create_typed schema name columns p e
 statement_typed schema (s.Insert name names rows_of) p e = insert_typed schema name names rows_of p e
 statement_typed schema _ p e = absurd (cc)

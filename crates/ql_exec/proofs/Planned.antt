@@ -37,7 +37,7 @@ use Rattle.ql_rel.specs.SelectRows.{is_row_by_row}
 use Rattle.ql_rel.proofs.Fits.{then_ok, same_ok}
 use Rattle.ql_rel.proofs.InsertFits.{source_typed}
 use Rattle.ql_rel.proofs.MadeLemmas.{two_parts}
-use Rattle.ql_rel.proofs.SelectFits.{plan_typed}
+use Rattle.ql_rel.proofs.SelectFits.{select_typed}
 use Rattle.ql_exec.specs.Answers.{AreTypedAt}
 use Rattle.ql_exec.specs.Scans.{table_types}
 use Rattle.ql_exec.specs.Selects.{AreTypedOver}
@@ -123,7 +123,7 @@ sets_there schema select p e = sets_if schema select p (add_sets schema [] (out-
 
 fields_typed : (schema : Schema) (select : Select) (p : Plan) → select_plan schema select ≡ Ok p → IsTrue (is_row_by_row (out-Select select).distinct p) → AreTyped (type_of (types_if (add_sets schema [] (out-Select select).sets))) p.fields
 fields_typed schema select p e h =
-    let all : PlanTyped (types_if (add_sets schema [] (out-Select select).sets)) p = plan_typed schema (s.Query select) p e in
+    let all : PlanTyped (types_if (add_sets schema [] (out-Select select).sets)) p = select_typed schema select p e in
     all.fields (not_grouped (out-Select select).distinct p h)
 
 -- without a record set the fields see nothing

@@ -9,7 +9,6 @@ pub mod Places
 pub mod Judged
 pub mod PlanFits
 pub mod SelectFits
-pub mod EffectExamples
 mod RowFits
 mod ChangeLemmas
 mod FormLemmas

@@ -5,7 +5,6 @@ use Rattle.ql_value.specs.declared.value.Kind.{Kind}
 use Rattle.ql_value.specs.declared.value.Kind.TheVariants as k
 use Rattle.ql_value.specs.declared.value.Value.TheVariants as v
 use Rattle.ql_syntax.specs.declared.statement.ColumnDef.{ColumnDef}
-use Rattle.ql_syntax.specs.declared.statement.Statement.TheVariants as s
 use Rattle.ql_syntax.specs.declared.syntax.Expr.TheOpen.{SetSource-F}
 use Rattle.ql_syntax.specs.declared.syntax.Expr.TheVariants as e
 use Rattle.ql_syntax.specs.declared.syntax.FromSet.{roll-FromSet}
@@ -33,7 +32,7 @@ use Rattle.ql_rel.specs.Answers.{Answer, refused, refused_at, then_with}
 use Rattle.ql_rel.specs.Checked.{of_type, require_type}
 use Rattle.ql_rel.specs.Scopes.{column_place}
 use Rattle.ql_rel.specs.Types.{Judged, ref_of, plain_name}
-use Rattle.ql_rel.specs.Plans.{add_table, add_source, add_set, add_sets, set_slots, without_join, field_name, star, any_field_aggregate, key_scope, row_scope, table_named, resolve_among, resolve_if, resolve_each, is_some_list, output_of, limits_of, plan_of, select_plan, plan}
+use Rattle.ql_rel.specs.Plans.{add_table, add_source, add_set, add_sets, set_slots, without_join, field_name, star, any_field_aggregate, key_scope, row_scope, table_named, resolve_among, resolve_if, resolve_each, is_some_list, output_of, limits_of, plan_of, select_plan}
 use Rattle.ql_syntax.specs.GroupTyping.{aggregate_type, type_by, type_in_group}
 use Rattle.ql_syntax.proofs.TypedBy.{by_roll, by_constant, by_place, by_rows, by_aggregate}
 use Rattle.ql_rel.proofs.Equations.{judge_of_column, judge_of_number, judge_of_truth, judge_of_null}
@@ -160,15 +159,12 @@ alias_hides = refl
 metadata : add_set tables [] (roll-FromSet (record { source = source.Table (codes "__Table"); alias = None })) ≡ refused 10
 metadata = ap (add_source tables [] None) (source.outs-Table (codes "__Table"))
 
--- a subselect, a join, and a statement that is not built yet
+-- a subselect and a join
 subselect : (q : Select) → add_source tables [] None (SetSource-F.Query q) ≡ refused 10
 subselect q = refl
 
 a_join : (join : Join) → without_join (Some join) ≡ refused 10
 a_join join = refl
-
-no_plan : plan tables s.Commit ≡ refused 10
-no_plan = refl
 
 -- what a test makes of what is said of an expression
 abbrev test_of : (Kind → Bool) → Judged → Answer Typed

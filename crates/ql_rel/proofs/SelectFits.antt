@@ -4,8 +4,6 @@ use Rattle.ql_value.specs.Kinds.{is_integer, is_truth}
 use Rattle.ql_syntax.specs.declared.typing.Typing.{Typing}
 use Rattle.ql_syntax.specs.Typing.{IsTyped, among, type_of, place_type}
 use Rattle.ql_syntax.specs.declared.statement.ColumnDef.{ColumnDef}
-use Rattle.ql_syntax.specs.declared.statement.Statement.{Statement}
-use Rattle.ql_syntax.specs.declared.statement.Statement.TheVariants as s
 use Rattle.ql_syntax.specs.declared.syntax.Expr.{Expr}
 use Rattle.ql_syntax.specs.declared.syntax.Expr.TheOpen.{SetSource-F}
 use Rattle.ql_syntax.specs.declared.syntax.Field.{Field}
@@ -24,7 +22,7 @@ use Rattle.ql_rel.specs.declared.schema.Schema.{Schema}
 use Rattle.ql_rel.specs.declared.schema.TableSchema.{TableSchema}
 use Rattle.ql_rel.specs.Answers.{then_with, refused, refused_at}
 use Rattle.ql_syntax.specs.Aggregates.{has_aggregate}
-use Rattle.ql_rel.specs.Plans.{table_named, is_metadata, column_slots, set_slots, is_taken, set_name, add_table, add_source, add_set, add_sets, without_join, row_scope, resolve_if, resolve_each, star_field, star_fields, are_several, star, result_fields, any_field_aggregate, field_slots, key_scope, is_some_list, row_conditions, source_of, keyed_output, output_of, limits_of, plan_of, plan_behind, select_plan, plan}
+use Rattle.ql_rel.specs.Plans.{table_named, is_metadata, column_slots, set_slots, is_taken, set_name, add_table, add_source, add_set, add_sets, without_join, row_scope, resolve_if, resolve_each, star_field, star_fields, are_several, star, result_fields, any_field_aggregate, field_slots, key_scope, is_some_list, row_conditions, source_of, keyed_output, output_of, limits_of, plan_of, plan_behind, select_plan}
 use Rattle.ql_rel.specs.PlanTypes.{slot_types, types_if, row_types, AreTyped, PlanTyped}
 use Rattle.ql_syntax.specs.GroupTyping.{type_in_group}
 use Rattle.ql_syntax.proofs.TypedBy.{by_place}
@@ -253,12 +251,7 @@ behind_source schema select p x f a =
     let whole = whole_fits f.slots x y.0 z.0 f.filter f.groups o (limits_fit select z.0 z.1) in
     subst (λ r. PlanTyped (types_if r) p) (sym f.sets) (subst (PlanTyped (slot_types f.slots)) (same_ok (plan_of x.filter x.groups y.0 z.0) p z.2) whole)
 
-select_typed : (schema : Schema) (select : Select) (p : Plan) → select_plan schema select ≡ Ok p → PlanTyped (types_if (add_sets schema [] (out-Select select).sets)) p
+pub select_typed : (schema : Schema) (select : Select) (p : Plan) → select_plan schema select ≡ Ok p → PlanTyped (types_if (add_sets schema [] (out-Select select).sets)) p
 select_typed schema select p a =
     let x = then_ok (source_of schema select) (plan_behind select) p a in
     behind_source schema select p x.0 (source_fits schema select x.0 x.1) x.2
-
--- the plan of a statement keeps what is promised of its types
-pub plan_typed : (schema : Schema) (statement : Statement) (p : Plan) → plan schema statement ≡ Ok p → PlanTyped (row_types schema statement) p
-plan_typed schema (s.Query select) p a = select_typed schema select p a
-plan_typed schema _ p a = absurd (cc)

@@ -4,14 +4,9 @@ pub mod Checked
 pub mod Operands
 pub mod Calls
 pub mod Types
-pub mod Aggregates
 pub mod Plans
 pub mod PlanTypes
-pub mod Forms
 pub mod Rows
-pub mod Tables
-pub mod Effect
-pub mod Meaning
 pub mod Names
 pub mod Databases
 pub mod Changes

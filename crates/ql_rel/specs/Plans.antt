@@ -6,8 +6,6 @@ use Rattle.ql_value.specs.declared.refusal.TheConstants.{AMBIGUOUS, COUNT, LATER
 use Rattle.ql_value.specs.declared.value.Kind.{Kind}
 use Rattle.ql_value.specs.declared.value.Kind.TheVariants as k
 use Rattle.ql_syntax.specs.declared.statement.ColumnDef.{ColumnDef}
-use Rattle.ql_syntax.specs.declared.statement.Statement.{Statement}
-use Rattle.ql_syntax.specs.declared.statement.Statement.TheVariants as s
 use Rattle.ql_syntax.specs.declared.syntax.Expr.{Expr}
 use Rattle.ql_syntax.specs.declared.syntax.Expr.TheOpen.{SetSource-F}
 use Rattle.ql_syntax.specs.declared.syntax.Field.{Field, out-Field}
@@ -244,8 +242,3 @@ plan_behind select source =
 -- the plan of a SELECT: FROM, join, WHERE, GROUP BY, fields, ORDER BY, LIMIT, OFFSET
 abbrev pub select_plan : Schema → Select → Answer Plan
 select_plan schema select = then_with (source_of schema select) (plan_behind select)
-
--- the plan of a statement; all but SELECT are not built yet
-abbrev pub plan : Schema → Statement → Answer Plan
-plan schema (s.Query select) = select_plan schema select
-plan schema _ = refused LATER

@@ -1,15 +1,11 @@
--- What a SELECT of expressions shows.
-use Rattle.std.specs.Prelude.{ℕ, if◌then◌else◌, List, [], ◌∷◌, ◌++◌, codes, flat_map, map, Ok, Err}
+-- The values of expressions at a row, and a row as it is shown.
+use Rattle.std.specs.Prelude.{ℕ, List, [], ◌∷◌, ◌++◌, codes, flat_map, map, Ok}
 use Rattle.ql_value.specs.Print.{printed}
 use Rattle.ql_value.specs.declared.refusal.TheConstants.{LATER, DIVIDE, RANGE, NEGATIVE_COUNT}
 use Rattle.ql_value.specs.declared.value.Value.{Value}
 use Rattle.ql_syntax.specs.Values.{Outcome, gives, refuses, means_nothing, divide, range, negative_count, value_at}
-use Rattle.ql_syntax.specs.declared.statement.Statement.{Statement}
 use Rattle.ql_syntax.specs.declared.typed.Typed.{Typed}
-use Rattle.ql_rel.specs.declared.plan.Plan.{Plan}
-use Rattle.ql_rel.specs.declared.schema.Schema.{Schema}
-use Rattle.ql_rel.specs.Answers.{Answer, refused, then_with, all_of}
-use Rattle.ql_rel.specs.Plans.{plan}
+use Rattle.ql_rel.specs.Answers.{Answer, refused, all_of}
 
 -- the values of a row but the first, each behind a comma and a space
 abbrev pub more_values : List Value → List ℕ
@@ -35,20 +31,3 @@ answer_of means_nothing = refused LATER
 -- the values of expressions at a row, or the first refusal, from left to right
 abbrev pub values_of : List Value → List Typed → Answer (List Value)
 values_of row exprs = all_of (map (λ e. answer_of (value_at row e)) exprs)
-
--- the only row of a plan without record sets; groups are not built yet
-abbrev pub sole_row : Plan → Answer (List Value)
-sole_row p = if p.grouped then refused LATER else values_of [] p.fields
-
--- no table
-abbrev pub no_tables : Schema
-no_tables = record { tables = []; indexes = [] }
-
--- the text of a SELECT of expressions, which sees no table
-abbrev pub expressions_text : Statement → Answer (List ℕ)
-expressions_text statement = then_with (plan no_tables statement) (λ p. then_with (sole_row p) (λ row. Ok (row_line row)))
-
--- the text of a statement, which shows nothing where it is refused
-abbrev pub text_if : Answer (List ℕ) → List ℕ
-text_if (Ok text) = text
-text_if (Err r) = []
