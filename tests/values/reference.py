@@ -193,10 +193,12 @@ def printed(made):
 
 def row(statement):
     """The line that a statement shows."""
-    usual = trees.Select(fields=getattr(statement, "fields", None))
-    if statement != usual or has_aggregate([expr for expr, _ in usual.fields or []]):
+    if not isinstance(statement, trees.Select):
         raise Refused(10)
     fields = plan_of(statement, {}).fields
+    usual = trees.Select(fields=statement.fields)
+    if statement != usual or has_aggregate([expr for expr, _ in usual.fields or []]):
+        raise Refused(10)
     return ", ".join(printed(value(field.expr)) for _, field in fields)
 
 
