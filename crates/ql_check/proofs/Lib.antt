@@ -1,7 +1,2 @@
-pub mod Prefixes
-pub mod Turns
-pub mod Stops
-pub mod Ids
-pub mod Places
 pub mod Promises
 pub mod NewNames

@@ -9,12 +9,12 @@ use Rattle.std.specs.Str.{bytes_eq}
 use Rattle.std.proofs.lemmas.List.{drop_more, take_more}
 use Rattle.std.proofs.lemmas.Map.Text.{is_eq-slice_cmp}
 use Rattle.ql_syntax.specs.declared.statement.ColumnDef.{ColumnDef}
-use Rattle.ql_rel.specs.Answers.{Answer, then_with}
+use Rattle.ql_syntax.specs.Answers.{Answer, then_with}
 use Rattle.ql_rel.specs.CreatePlans.{new_column, new_columns}
 use Rattle.ql_rel.specs.Names.{has_name, column_names}
-use Rattle.ql_check.specs.declared.fault.CheckFault.{CheckFault}
-use Rattle.ql_check.specs.declared.fault.CheckFault.TheVariants as fault
-use Rattle.ql_check.specs.Gives.{Gives}
+use Rattle.ql_check_expr.specs.declared.fault.CheckFault.{CheckFault}
+use Rattle.ql_check_expr.specs.declared.fault.CheckFault.TheVariants as fault
+use Rattle.ql_check_expr.specs.Gives.{Gives}
 use Rattle.ql_check.specs.NameSets.{HoldsNames}
 
 any_or : (a b c : Bool) → (a || cond b true c) ≡ cond b true (a || c)

@@ -7,7 +7,7 @@ use Rattle.ql_syntax.specs.declared.statement.Statement.TheVariants as s
 use Rattle.ql_syntax.specs.declared.typed.Typed.{Typed}
 use Rattle.ql_rel.specs.declared.plan.Plan.{Plan}
 use Rattle.ql_rel.specs.declared.schema.Schema.{Schema}
-use Rattle.ql_rel.specs.Answers.{then_with}
+use Rattle.ql_syntax.specs.Answers.{then_with}
 use Rattle.ql_rel.specs.CreatePlans.{no_parts, some_columns, create_table_plan}
 use Rattle.ql_rel.specs.InsertPlans.{without_named, without_checks, source_rows, rows_plan, insert_plan}
 use Rattle.ql_rel.specs.NewNames.{new_name, free_table, known_table}
@@ -15,8 +15,8 @@ use Rattle.ql_rel.specs.PlanTypes.{PlanTyped, row_types}
 use Rattle.ql_rel.specs.StatementPlans.{statement_plan}
 use Rattle.ql_rel.proofs.Fits.{then_ok, same_ok}
 use Rattle.ql_rel.proofs.SelectFits.{select_typed}
-use Rattle.ql_check.specs.declared.fault.CheckFault.{CheckFault}
-use Rattle.ql_check.specs.Gives.{Gives}
+use Rattle.ql_check_expr.specs.declared.fault.CheckFault.{CheckFault}
+use Rattle.ql_check_expr.specs.Gives.{Gives}
 use Rattle.ql_check.specs.Inserts.{table_plan}
 
 -- a plan with rows of values alone has no expression that sees a row

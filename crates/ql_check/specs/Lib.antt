@@ -1,7 +1,4 @@
-pub mod Groups
-pub mod Gives
-pub mod Names
+pub mod Found
 pub mod Outputs
-pub mod Forms
 pub mod Inserts
 pub mod NameSets

@@ -2,11 +2,11 @@
 
 ghost use Rattle.std.specs.Prelude.{◌≡◌, ℕ, List, [], ◌∷◌, ◌++◌, OnOk};
 ghost use Rattle.ql_rel.specs.CreatePlans as spec;
-ghost use Rattle.ql_check.specs.Gives.{Gives};
+ghost use Rattle.ql_check_expr.specs.Gives.{Gives};
 ghost use Rattle.ql_check.specs.NameSets.{HoldsNames};
 
-use crate::CheckFault;
 use crate::names::{free_column, free_table, new_name};
+use ql_check_expr::CheckFault;
 use ql_edge::{Name, Names0, Numbers};
 use ql_rel::{Plan, Schema};
 use ql_syntax::{ColumnDef, ColumnDefs, OptTypeds, TypedRows, Typeds};

@@ -3,18 +3,14 @@
 ghost use Rattle.std.specs.Prelude.{◌≡◌, ◌++◌, None, IfOk};
 ghost use Rattle.ql_syntax.specs.declared.syntax.Field.{out-Field};
 ghost use Rattle.ql_rel.specs.Plans as spec;
-ghost use Rattle.ql_rel.specs.Types.{plain_name};
-ghost use Rattle.ql_check.specs.Gives.{Gives};
+ghost use Rattle.ql_syntax.specs.Resolving.{plain_name};
+ghost use Rattle.ql_check_expr.specs.Gives.{Gives};
 ghost use Rattle.ql_check.specs.Outputs.{name_or_none};
 
-use crate::CheckFault;
-use crate::aggregate::has_aggregate;
-use crate::checked::of_type;
-use crate::expression::check_expr;
-use crate::scope::qualified_name;
+use ql_check_expr::{CheckFault, check_expr, has_aggregate, of_type, qualified_name};
 use ql_edge::{Boxed, Bytes, Name, NoMemory};
-use ql_rel::{ResultField, ResultFields, Scope, Slot, Slots};
-use ql_syntax::{Expr, Field, Fields, Typed};
+use ql_rel::{ResultField, ResultFields};
+use ql_syntax::{Expr, Field, Fields, Scope, Slot, Slots, Typed};
 use ql_value::{COUNT, Refusal};
 use std::alloc::Global;
 

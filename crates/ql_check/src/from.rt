@@ -2,14 +2,13 @@
 
 ghost use Rattle.std.specs.Prelude.{◌≡◌, [], ◌∷◌, ◌++◌, Some, IfOk};
 ghost use Rattle.ql_rel.specs.Plans as spec;
-ghost use Rattle.ql_check.specs.Gives.{Gives};
-ghost use Rattle.ql_check.specs.Names.{table_of};
+ghost use Rattle.ql_check_expr.specs.Gives.{Gives};
+ghost use Rattle.ql_check.specs.Found.{table_of};
 
-use crate::CheckFault;
-use crate::scope::is_called;
+use ql_check_expr::{CheckFault, is_called};
 use ql_edge::{Boxed, Bytes, Name, NoMemory};
-use ql_rel::{Schema, Slot, Slots, TableSchema, TableSchemas};
-use ql_syntax::{ColumnDef, ColumnDefs, FromSet, FromSets, SetSource, Typing};
+use ql_rel::{Schema, TableSchema, TableSchemas};
+use ql_syntax::{ColumnDef, ColumnDefs, FromSet, FromSets, SetSource, Slot, Slots, Typing};
 use ql_value::{AMBIGUOUS, Kind, LATER, NO_TABLE, Refusal};
 use std::alloc::Global;
 

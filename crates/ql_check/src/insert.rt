@@ -4,24 +4,23 @@ ghost use Rattle.std.specs.Prelude.{◌≡◌, [], false, length, map, Ok, IfOk}
 ghost use Rattle.std.specs.List.{list_all, list_any, range_with_len};
 ghost use Rattle.ql_value.specs.Kinds as kinds;
 ghost use Rattle.ql_syntax.specs.Typing as types;
-ghost use Rattle.ql_rel.specs.Answers.{all_of};
+ghost use Rattle.ql_syntax.specs.Answers.{all_of};
 ghost use Rattle.ql_rel.specs.CreatePlans as create;
 ghost use Rattle.ql_rel.specs.InsertPlans as spec;
 ghost use Rattle.ql_rel.specs.Plans.{row_scope};
-ghost use Rattle.ql_rel.specs.Types.{check_expr};
-ghost use Rattle.ql_check.specs.Gives.{Gives};
+ghost use Rattle.ql_syntax.specs.Resolving.{check_expr};
+ghost use Rattle.ql_check_expr.specs.Gives.{Gives};
 ghost use Rattle.ql_check.specs.Inserts.{table_plan};
 
-use crate::CheckFault;
-use crate::checked::{meet_type, require_type};
 use crate::create::{no_parts, takes_all};
-use crate::expression::check_expr;
 use crate::from::{is_metadata, table_named};
 use crate::select::row_scope;
+use ql_check_expr::{CheckFault, check_expr, meet_type, require_type};
 use ql_edge::{Name, Names, NoMemory, Numbers};
-use ql_rel::{Checked, CheckedList, Index, Indexes, Plan, Schema, Scope, Slots};
+use ql_rel::{Index, Indexes, Plan, Schema};
 use ql_syntax::{
-    ColumnDef, ColumnDefs, ExprRows, Exprs, RowSource, Typed, TypedRows, Typeds, Typing,
+    Checked, CheckedList, ColumnDef, ColumnDefs, ExprRows, Exprs, RowSource, Scope, Slots, Typed,
+    TypedRows, Typeds, Typing,
 };
 use ql_value::{COUNT, Kind, LATER, NO_TABLE, RESERVED, Refusal};
 use std::alloc::Global;

@@ -4,10 +4,10 @@ ghost use Rattle.std.specs.Prelude.{◌≡◌, ℕ, not, List, [], ◌∷◌, �
 ghost use Rattle.ql_rel.specs.Accepted as accepted;
 ghost use Rattle.ql_rel.specs.Names as spec;
 ghost use Rattle.ql_rel.specs.NewNames.{new_name, free_table, free_column};
-ghost use Rattle.ql_check.specs.Gives.{Gives};
+ghost use Rattle.ql_check_expr.specs.Gives.{Gives};
 ghost use Rattle.ql_check.specs.NameSets.{HoldsNames};
 
-use crate::CheckFault;
+use ql_check_expr::CheckFault;
 use ql_edge::NoMemory;
 use ql_rel::{Indexes, Schema, TableSchemas};
 use ql_value::{EXISTS, RESERVED, Refusal};

@@ -2,19 +2,16 @@
 
 ghost use Rattle.std.specs.Prelude.{◌≡◌, Ok, IfOk};
 ghost use Rattle.ql_rel.specs.Plans as spec;
-ghost use Rattle.ql_check.specs.Gives.{Gives};
+ghost use Rattle.ql_check_expr.specs.Gives.{Gives};
 ghost use Rattle.ql_check.specs.Outputs.{AreColumns};
-ghost use Rattle.ql_check.specs.Groups.{test_of};
+ghost use Rattle.ql_check_expr.specs.Groups.{test_of};
 
-use crate::CheckFault;
-use crate::checked::require_type;
-use crate::expression::check_expr;
 use crate::fields::{any_aggregate, field_slots, fields_of};
 use crate::from::add_sets;
-use crate::table::{Group, among};
+use ql_check_expr::{CheckFault, Group, among, check_expr, require_type};
 use ql_edge::{Boxed, Names0, NoMemory, Numbers};
-use ql_rel::{Limits, Output, Plan, ResultField, ResultFields, Schema, Scope, Slots, Source};
-use ql_syntax::{Expr, Exprs, Join, OptTypeds, Select, Typed, TypedRows, Typeds};
+use ql_rel::{Limits, Output, Plan, ResultField, ResultFields, Schema, Source};
+use ql_syntax::{Expr, Exprs, Join, OptTypeds, Scope, Select, Slots, Typed, TypedRows, Typeds};
 use ql_value::{LATER, Refusal};
 use std::alloc::Global;
 

@@ -3,12 +3,12 @@
 ghost use Rattle.std.specs.Prelude.{IfOk};
 ghost use Rattle.ql_rel.specs.PlanTypes.{PlanTyped, row_types};
 ghost use Rattle.ql_rel.specs.StatementPlans.{statement_plan};
-ghost use Rattle.ql_check.specs.Gives.{Gives};
+ghost use Rattle.ql_check_expr.specs.Gives.{Gives};
 
-use crate::CheckFault;
 use crate::create::create_table_plan;
 use crate::insert::insert_plan;
 use crate::select::select_plan;
+use ql_check_expr::CheckFault;
 use ql_rel::{Plan, Schema};
 use ql_syntax::Statement;
 use ql_value::{LATER, Refusal};

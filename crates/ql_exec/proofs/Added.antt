@@ -7,10 +7,10 @@ use Rattle.ql_value.specs.declared.value.Value.{Value}
 use Rattle.ql_rel.specs.declared.db.Db.{Db}
 use Rattle.ql_rel.specs.declared.fault.RelFault.{RelFault}
 use Rattle.ql_rel.specs.declared.fault.RelFault.TheVariants as rel
-use Rattle.ql_rel.specs.Answers.{Answer, then_with}
+use Rattle.ql_syntax.specs.Answers.{Answer, then_with}
 use Rattle.ql_rel.specs.Refusals.{IsRefusedBy, IsCausedRel}
 use Rattle.ql_rel.specs.StatementEffects.{unless, row_added, rows_added}
-use Rattle.ql_exec.specs.Answers.{fault_of}
+use Rattle.ql_exec.specs.Answers.{fault_of_rel}
 use Rattle.ql_exec.specs.Carries.{Changed, Changes, IsCausedExec}
 use Rattle.ql_exec.specs.declared.fault.ExecFault.{ExecFault}
 use Rattle.ql_exec.specs.declared.fault.ExecFault.TheVariants as fault
@@ -20,18 +20,18 @@ pub change_done : {T : Type 0} (change : Db → Db) (refusal : Db → Option Rel
 change_done change refusal x None now e h = tt
 change_done change refusal x (Some d) now e h = record { after = change d; is = ap (λ r. unless r (change d)) h; holds = e }
 
-pub refused_change : (T U : Type 0) (f : RelFault) (refusal : Option RelFault) (after : Db) (now : Option Db) → IsRefusedBy {T = T} refusal (Err f) → Changes {T = U} (unless refusal after) (Err (fault_of f)) now
+pub refused_change : (T U : Type 0) (f : RelFault) (refusal : Option RelFault) (after : Db) (now : Option Db) → IsRefusedBy {T = T} refusal (Err f) → Changes {T = U} (unless refusal after) (Err (fault_of_rel f)) now
 refused_change T U rel.RowTooLong refusal after now h = ap (λ r. unless r after) h
 refused_change T U (rel.KeyTooLong index) refusal after now h = ap (λ r. unless r after) h
 refused_change T U rel.IdsSpent refusal after now h = ap (λ r. unless r after) h
 refused_change T U rel.TableLimit refusal after now h = ap (λ r. unless r after) h
 refused_change T U (rel.Trouble t) refusal after now h = tt
 
-pub change_refused : (T U : Type 0) (change : Db → Db) (refusal : Db → Option RelFault) (f : RelFault) (o now : Option Db) → IfSome o (λ d. IsRefusedBy {T = T} (refusal d) (Err f)) → IfSome o (λ d. Changes {T = U} (unless (refusal d) (change d)) (Err (fault_of f)) now)
+pub change_refused : (T U : Type 0) (change : Db → Db) (refusal : Db → Option RelFault) (f : RelFault) (o now : Option Db) → IfSome o (λ d. IsRefusedBy {T = T} (refusal d) (Err f)) → IfSome o (λ d. Changes {T = U} (unless (refusal d) (change d)) (Err (fault_of_rel f)) now)
 change_refused T U change refusal f None now h = tt
 change_refused T U change refusal f (Some d) now h = refused_change T U f (refusal d) (change d) now h
 
-pub cause_kept : (T U : Type 0) (limit : Option ℕ) (told : Option Db) (f : RelFault) (before now : ℕ) → IsCausedRel {T = T} limit told (Err f) before now → IsCausedExec {T = U} limit told (Err (fault_of f)) before now
+pub cause_kept : (T U : Type 0) (limit : Option ℕ) (told : Option Db) (f : RelFault) (before now : ℕ) → IsCausedRel {T = T} limit told (Err f) before now → IsCausedExec {T = U} limit told (Err (fault_of_rel f)) before now
 cause_kept T U limit told rel.RowTooLong before now h = h
 cause_kept T U limit told (rel.KeyTooLong index) before now h = h
 cause_kept T U limit told rel.IdsSpent before now h = h

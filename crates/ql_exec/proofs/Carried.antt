@@ -9,7 +9,7 @@ use Rattle.ql_syntax.specs.declared.syntax.Select.{Select}
 use Rattle.ql_rel.specs.declared.db.Db.{Db}
 use Rattle.ql_rel.specs.declared.plan.Plan.{Plan}
 use Rattle.ql_rel.specs.declared.schema.Schema.{Schema}
-use Rattle.ql_rel.specs.Answers.{Answer, then_with}
+use Rattle.ql_syntax.specs.Answers.{Answer, then_with}
 use Rattle.ql_rel.specs.CreatePlans.{create_table_plan}
 use Rattle.ql_rel.specs.Plans.{select_plan}
 use Rattle.ql_rel.specs.SelectRows.{select_text}

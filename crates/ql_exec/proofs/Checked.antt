@@ -5,7 +5,7 @@ use Rattle.ql_syntax.specs.ReadsBack.{IsReadBack}
 use Rattle.ql_rel.specs.declared.db.Db.{Db}
 use Rattle.ql_rel.specs.declared.plan.Plan.{Plan}
 use Rattle.ql_rel.specs.declared.schema.Schema.{Schema}
-use Rattle.ql_rel.specs.Answers.{Answer, then_with}
+use Rattle.ql_syntax.specs.Answers.{Answer, then_with}
 use Rattle.ql_rel.specs.Databases.{schema_of}
 use Rattle.ql_rel.specs.Lawful.{IsLawful}
 use Rattle.ql_rel.specs.StatementEffects.{carried, statement_effect}

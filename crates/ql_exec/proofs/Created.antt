@@ -6,7 +6,7 @@ use Rattle.ql_rel.specs.declared.fault.RelFault.{RelFault}
 use Rattle.ql_rel.specs.declared.plan.Plan.{Plan}
 use Rattle.ql_rel.specs.declared.schema.Schema.{Schema}
 use Rattle.ql_rel.specs.declared.schema.TableSchema.{TableSchema}
-use Rattle.ql_rel.specs.Answers.{Answer}
+use Rattle.ql_syntax.specs.Answers.{Answer}
 use Rattle.ql_rel.specs.Changes.{table_created}
 use Rattle.ql_rel.specs.CreatePlans.{create_table_plan}
 use Rattle.ql_rel.specs.Creates.{create_table}
@@ -17,7 +17,7 @@ use Rattle.ql_rel.specs.StatementEffects.{unless, table_added}
 use Rattle.ql_rel.specs.WellFormed.{IsMade, IsReadAsItself, IsWellFormed}
 use Rattle.ql_syntax.specs.ReadsBack.{IsReadBack}
 use Rattle.ql_rel.proofs.CreateLemmas.{HasPlan, has_plan, created_made}
-use Rattle.ql_exec.specs.Answers.{fault_of}
+use Rattle.ql_exec.specs.Answers.{fault_of_rel}
 use Rattle.ql_exec.specs.Carries.{Changed, Changes}
 use Rattle.ql_exec.proofs.Added.{refused_change}
 use Rattle.ql_exec.proofs.ReadBack.{reads_planned}
@@ -46,8 +46,8 @@ table_done t u schema x (Some d) now e s h r =
     subst (λ (z : TableSchema). Changed (table_added z d) now) e (record { after = table_created t d; is = ap (λ r. unless r (table_created t d)) none; holds = h })
 
 pub table_refused : (T U : Type 0) (t u : TableSchema) (schema : Schema) (f : RelFault) (o now : Option Db) → t ≡ u → IfSome o (λ d. schema ≡ schema_of d)
-    → IsRefusedBy {T = T} (table_refusal t schema) (Err f) → IfSome o (λ d. Changes {T = U} (table_added u d) (Err (fault_of f)) now)
+    → IsRefusedBy {T = T} (table_refusal t schema) (Err f) → IfSome o (λ d. Changes {T = U} (table_added u d) (Err (fault_of_rel f)) now)
 table_refused T U t u schema f None now e s h = tt
 table_refused T U t u schema f (Some d) now e s h =
     let here = subst (λ (z : Schema). IsRefusedBy {T = T} (table_refusal t z) (Err f)) s h in
-    subst (λ (z : TableSchema). Changes {T = U} (table_added z d) (Err (fault_of f)) now) e (refused_change T U f (table_refusal t (schema_of d)) (table_created t d) now here)
+    subst (λ (z : TableSchema). Changes {T = U} (table_added z d) (Err (fault_of_rel f)) now) e (refused_change T U f (table_refusal t (schema_of d)) (table_created t d) now here)

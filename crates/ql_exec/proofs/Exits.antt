@@ -6,7 +6,7 @@ use Rattle.ql_value.specs.declared.value.Value.{Value}
 use Rattle.ql_syntax.specs.declared.syntax.FromSet.{FromSet}
 use Rattle.ql_syntax.specs.declared.typed.Typed.{Typed}
 use Rattle.ql_rel.specs.declared.db.Db.{Db}
-use Rattle.ql_rel.specs.Answers.{Answer}
+use Rattle.ql_syntax.specs.Answers.{Answer}
 use Rattle.ql_rel.specs.Refusals.{IsTroubleCaused}
 use Rattle.ql_exec.specs.Carries.{IsCausedExec, IsTroubleAlone}
 use Rattle.ql_exec.specs.Scans.{AddsLine, AddsText}

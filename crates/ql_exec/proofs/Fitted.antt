@@ -15,7 +15,7 @@ use Rattle.ql_syntax.specs.declared.typing.Typing.TheVariants.{OnlyNull, OfKind,
 use Rattle.ql_eval.proofs.OperatorTypes.{Comes}
 use Rattle.ql_eval.proofs.Soundness.{sound}
 use Rattle.ql_eval.proofs.TypeLemmas.{one_kind}
-use Rattle.ql_rel.specs.Answers.{then_with}
+use Rattle.ql_syntax.specs.Answers.{then_with}
 use Rattle.ql_rel.specs.InsertTypes.{RowTyped, RowsTyped}
 use Rattle.ql_rel.specs.Rows.{answer_of, values_of}
 use Rattle.ql_rel.specs.StatementEffects.{rows_values}

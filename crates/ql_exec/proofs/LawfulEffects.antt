@@ -8,7 +8,7 @@ use Rattle.ql_rel.specs.declared.db.Db.{Db}
 use Rattle.ql_rel.specs.declared.fault.RelFault.TheVariants as fault
 use Rattle.ql_rel.specs.declared.plan.Plan.{Plan}
 use Rattle.ql_rel.specs.declared.schema.TableSchema.{TableSchema}
-use Rattle.ql_rel.specs.Answers.{Answer, then_with}
+use Rattle.ql_syntax.specs.Answers.{Answer, then_with}
 use Rattle.ql_rel.specs.Changes.{table_created}
 use Rattle.ql_rel.specs.Databases.{schema_of, columns_at}
 use Rattle.ql_rel.specs.InsertPlans.{insert_plan}

@@ -11,7 +11,7 @@ use Rattle.ql_rel.specs.declared.fault.RelFault.{RelFault}
 use Rattle.ql_rel.specs.declared.fault.RelFault.TheVariants as fault
 use Rattle.ql_rel.specs.declared.schema.Index.{Index}
 use Rattle.ql_rel.specs.declared.schema.Schema.{Schema}
-use Rattle.ql_rel.specs.declared.scope.Scope.{Scope}
+use Rattle.ql_syntax.specs.declared.scope.Scope.{Scope}
 use Rattle.ql_rel.specs.Accepted.{rule_scope}
 use Rattle.ql_rel.specs.Changes.{changed_at, with_rows, with_row, row_of, inserted}
 use Rattle.ql_rel.specs.CreatePlans.{takes_all}

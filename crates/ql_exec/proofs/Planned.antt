@@ -23,8 +23,8 @@ use Rattle.ql_syntax.specs.Typing.{type_of}
 use Rattle.ql_rel.specs.declared.plan.Plan.{Plan}
 use Rattle.ql_rel.specs.declared.schema.Schema.{Schema}
 use Rattle.ql_rel.specs.declared.schema.TableSchema.{TableSchema}
-use Rattle.ql_rel.specs.declared.scope.Slot.{Slot}
-use Rattle.ql_rel.specs.Answers.{Answer, then_with}
+use Rattle.ql_syntax.specs.declared.scope.Slot.{Slot}
+use Rattle.ql_syntax.specs.Answers.{Answer, then_with}
 use Rattle.ql_rel.specs.CreatePlans.{takes_all}
 use Rattle.ql_rel.specs.Databases.{columns_if, columns_at}
 use Rattle.ql_rel.specs.InsertPlans.{takes_rows, without_named, without_checks, source_rows, rows_plan, insert_plan}

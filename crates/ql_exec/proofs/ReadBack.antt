@@ -13,7 +13,7 @@ use Rattle.ql_syntax.specs.StatementPrinting.{ink_of_statement}
 use Rattle.ql_syntax.specs.Statements.{IsRead}
 use Rattle.ql_rel.specs.declared.plan.Plan.{Plan}
 use Rattle.ql_rel.specs.declared.schema.Schema.{Schema}
-use Rattle.ql_rel.specs.Answers.{Answer, then_with}
+use Rattle.ql_syntax.specs.Answers.{Answer, then_with}
 use Rattle.ql_rel.specs.CreatePlans.{no_parts, takes_all, without_conditions, new_column, new_columns, some_columns, create_table_plan}
 use Rattle.ql_rel.specs.NewNames.{new_name, free_table, free_column}
 use Rattle.ql_rel.specs.WellFormed.{IsReadAsItself}

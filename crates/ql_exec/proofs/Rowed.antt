@@ -6,7 +6,7 @@ use Rattle.ql_value.specs.declared.value.Value.{Value}
 use Rattle.ql_syntax.specs.declared.typed.Typed.{Typed}
 use Rattle.ql_rel.specs.declared.db.Db.{Db}
 use Rattle.ql_rel.specs.declared.schema.Schema.{Schema}
-use Rattle.ql_rel.specs.Answers.{Answer, then_with}
+use Rattle.ql_syntax.specs.Answers.{Answer, then_with}
 use Rattle.ql_rel.specs.Databases.{schema_of, columns_at}
 use Rattle.ql_rel.specs.InsertTypes.{RowsTyped}
 use Rattle.ql_rel.specs.NewNames.{place_named}

@@ -5,7 +5,7 @@ use Rattle.ql_value.specs.declared.refusal.Refusal.{Refusal}
 use Rattle.ql_value.specs.declared.value.Value.{Value}
 use Rattle.ql_syntax.specs.declared.typed.Typed.{Typed}
 use Rattle.ql_rel.specs.declared.db.Row.{Row}
-use Rattle.ql_rel.specs.Answers.{Answer, then_with}
+use Rattle.ql_syntax.specs.Answers.{Answer, then_with}
 use Rattle.ql_rel.specs.Rels.{is_after}
 use Rattle.ql_rel.specs.Rows.{row_line, values_of}
 use Rattle.ql_rel.specs.SelectRows.{set_row, results, lines_of}

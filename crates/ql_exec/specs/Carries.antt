@@ -1,7 +1,7 @@
 -- How a statement that was carried out stands to its effect, and what it leaves.
 use Rattle.std.specs.Prelude.{◌≡◌, ℕ, List, ◌++◌, Option, Some, IfSome, Result, Ok, Err, OnOk}
 use Rattle.ql_rel.specs.declared.db.Db.{Db}
-use Rattle.ql_rel.specs.Answers.{Answer}
+use Rattle.ql_syntax.specs.Answers.{Answer}
 use Rattle.ql_rel.specs.Lawful.{IsLawful}
 use Rattle.ql_rel.specs.Refusals.{IsTroubleCaused}
 use Rattle.ql_exec.specs.declared.fault.ExecFault.{ExecFault}

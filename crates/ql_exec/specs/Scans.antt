@@ -8,7 +8,7 @@ use Rattle.ql_syntax.specs.declared.typed.Typed.{Typed}
 use Rattle.ql_syntax.specs.declared.typing.Typing.{Typing}
 use Rattle.ql_syntax.specs.declared.typing.Typing.TheVariants.{OfKind}
 use Rattle.ql_rel.specs.declared.db.Row.{Row}
-use Rattle.ql_rel.specs.Answers.{Answer, then_with}
+use Rattle.ql_syntax.specs.Answers.{Answer, then_with}
 use Rattle.ql_rel.specs.Rows.{row_line}
 use Rattle.ql_rel.specs.SelectRows.{set_row, results, lines_of}
 use Rattle.ql_exec.specs.declared.fault.ExecFault.{ExecFault}

@@ -4,8 +4,8 @@ use Rattle.ql_syntax.specs.declared.syntax.FromSet.{FromSet}
 use Rattle.ql_syntax.specs.declared.typed.Typed.{Typed}
 use Rattle.ql_syntax.specs.Typing.{type_of}
 use Rattle.ql_rel.specs.declared.db.Db.{Db}
-use Rattle.ql_rel.specs.declared.scope.Slot.{Slot}
-use Rattle.ql_rel.specs.Answers.{Answer, then_with}
+use Rattle.ql_syntax.specs.declared.scope.Slot.{Slot}
+use Rattle.ql_syntax.specs.Answers.{Answer, then_with}
 use Rattle.ql_rel.specs.PlanTypes.{AreTyped, slot_types}
 use Rattle.ql_rel.specs.SelectRows.{from_rows, results, lines_of}
 

@@ -10,7 +10,7 @@ ghost use Rattle.ql_rel.specs.WellFormed.{IsWellFormed};
 ghost use Rattle.ql_exec.specs.Carries.{Changes, IsCausedExec, Leaves};
 
 use crate::ExecFault;
-use crate::fault::refused_by;
+use crate::fault::fault_of_rel;
 use ql_edge::{Name, NoMemory};
 use ql_rel::{Rel, TableSchema, add_columns, copy_name};
 use ql_syntax::ColumnDefs;
@@ -53,6 +53,6 @@ pub fn create_table<R: Rel>(
     let table = table_of(alloc, name, columns)?;
     match rel.create_table(&table) {
         Ok(()) => Ok(()),
-        Err(fault) => Err(refused_by(alloc, fault)),
+        Err(fault) => Err(fault_of_rel(alloc, fault)),
     }
 }

@@ -7,7 +7,7 @@ ghost use Rattle.ql_exec.specs.Carries.{Does, IsCausedExec, Leaves, StaysLawful}
 ghost use Rattle.ql_exec.specs.Depths.{IsDeepEnough};
 
 use crate::ExecFault;
-use crate::fault::unplanned;
+use crate::fault::fault_of_check;
 use crate::laws::effect_laws;
 use crate::statement::carry;
 use ql_check::check;
@@ -42,6 +42,6 @@ pub fn exec<R: Rel>(
     effect_laws();
     match check(alloc, statement, rel.schema()) {
         Ok(plan) => carry(alloc, rel, with_names, statement, &plan, out),
-        Err(fault) => Err(unplanned(fault)),
+        Err(fault) => Err(fault_of_check(fault)),
     }
 }

@@ -2,7 +2,7 @@
 
 ghost use Rattle.std.specs.Prelude.{◌≡◌, []};
 ghost use Rattle.lldb_base.specs.declared.trouble.Trouble.TheVariants as trouble;
-ghost use Rattle.ql_exec.specs.Answers.{fault_of, fault_of_check};
+ghost use Rattle.ql_exec.specs.Answers as spec;
 ghost use Rattle.ql_exec.specs.declared.fault.ExecFault.TheVariants as variant;
 
 use lldb_base::Trouble;
@@ -30,31 +30,31 @@ impl From<NoMemory> for ExecFault {
 }
 
 /// A refusal that shows no name.
-pub(crate) fn refused(alloc: Global, number: u8) -> ExecFault
+pub(crate) fn refusal(alloc: Global, number: u8) -> ExecFault
     ensures { result ≡ ExecFault.Refused (record { number = number; name = [] }) }
 {
     ExecFault::Refused(Refusal::new(alloc, number))
 }
 
 /// What a relation's refusal becomes.
-pub(crate) fn refused_by(alloc: Global, fault: RelFault) -> ExecFault
-    ensures { result ≡ fault_of fault }
+pub(crate) fn fault_of_rel(alloc: Global, fault: RelFault) -> ExecFault
+    ensures { result ≡ spec.fault_of_rel fault }
 {
     match fault {
-        RelFault::RowTooLong => refused(alloc, ROW_TOO_LONG),
+        RelFault::RowTooLong => refusal(alloc, ROW_TOO_LONG),
         RelFault::KeyTooLong(index) => ExecFault::Refused(Refusal {
             number: KEY_TOO_LONG,
             name: index.into_bytes(),
         }),
-        RelFault::IdsSpent => refused(alloc, IDS_SPENT),
-        RelFault::TableLimit => refused(alloc, TABLE_LIMIT_REFUSAL),
+        RelFault::IdsSpent => refusal(alloc, IDS_SPENT),
+        RelFault::TableLimit => refusal(alloc, TABLE_LIMIT_REFUSAL),
         RelFault::Trouble(trouble) => ExecFault::Trouble(trouble),
     }
 }
 
 /// What the refusal of a statement that has no plan becomes.
-pub(crate) fn unplanned(fault: CheckFault) -> ExecFault
-    ensures { result ≡ fault_of_check fault }
+pub(crate) fn fault_of_check(fault: CheckFault) -> ExecFault
+    ensures { result ≡ spec.fault_of_check fault }
 {
     match fault {
         CheckFault::Refused(refusal) => ExecFault::Refused(refusal),

@@ -10,7 +10,7 @@ ghost use Rattle.ql_rel.specs.WellFormed.{Fits};
 ghost use Rattle.ql_exec.specs.Carries.{Changes, IsCausedExec, Leaves};
 
 use crate::ExecFault;
-use crate::fault::refused_by;
+use crate::fault::fault_of_rel;
 use crate::values::{ValueRows, rows_values};
 use ql_edge::Name;
 use ql_rel::{Plan, Rel, TableSchema};
@@ -33,7 +33,7 @@ fn add_row<R: Rel>(alloc: Global, rel: &mut R, table: u32, values: &Values) -> R
 {
     match rel.insert(table, values) {
         Ok(_) => Ok(()),
-        Err(fault) => Err(refused_by(alloc, fault)),
+        Err(fault) => Err(fault_of_rel(alloc, fault)),
     }
 }
 

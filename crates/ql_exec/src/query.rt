@@ -13,7 +13,7 @@ ghost use Rattle.ql_exec.specs.Carries.{IsCausedExec, IsTroubleAlone, Leaves};
 ghost use Rattle.ql_exec.specs.Scans.{table_types, rows_text, AddsLine, AddsText};
 
 use crate::ExecFault;
-use crate::fault::refused_by;
+use crate::fault::fault_of_rel;
 use crate::text::add_line;
 use crate::values::values_of;
 use lldb_base::Trouble;
@@ -95,7 +95,7 @@ fn next_row<R: Rel>(
             Ok(Some(row))
         }
         Ok(false) => Ok(None),
-        Err(fault) => Err(refused_by(alloc, fault)),
+        Err(fault) => Err(fault_of_rel(alloc, fault)),
     }
 }
 

@@ -10,7 +10,7 @@ ghost use Rattle.ql_exec.specs.Scans.{AddsText};
 ghost use Rattle.ql_exec.specs.Selects.{select_lines, AreTypedOver};
 
 use crate::ExecFault;
-use crate::fault::refused;
+use crate::fault::refusal;
 use crate::insert::table_named;
 use crate::query::{add_fields, add_table};
 use crate::text::heading;
@@ -58,7 +58,7 @@ fn add_set_lines<R: Rel>(
             let table = table_named(rel, name.get());
             add_table(alloc, rel, table, fields, text)
         }
-        SetSource::Query(_) => Err(refused(alloc, LATER)),
+        SetSource::Query(_) => Err(refusal(alloc, LATER)),
     }
 }
 
@@ -86,7 +86,7 @@ fn add_lines<R: Rel>(
     match select.sets.as_slice() {
         [] => add_fields(alloc, &plan.fields, &[], text),
         [set] => add_set_lines(alloc, rel, set, &plan.fields, text),
-        _ => Err(refused(alloc, LATER)),
+        _ => Err(refusal(alloc, LATER)),
     }
 }
 
@@ -113,7 +113,7 @@ pub fn add_select<R: Rel>(
         (R.faults rel.new) }
 {
     if !is_row_by_row(select.distinct, plan) {
-        return Err(refused(alloc, LATER));
+        return Err(refusal(alloc, LATER));
     }
     let mut text = heading(alloc, with_names, &plan.names)?;
     add_lines(alloc, rel, select, plan, &mut text)?;

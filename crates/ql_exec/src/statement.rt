@@ -10,7 +10,7 @@ ghost use Rattle.ql_exec.specs.Depths.{IsDeepEnough};
 
 use crate::ExecFault;
 use crate::create::create_table;
-use crate::fault::refused;
+use crate::fault::refusal;
 use crate::insert::insert_rows;
 use crate::select::add_select;
 use ql_edge::Bytes;
@@ -46,6 +46,6 @@ pub fn carry<R: Rel>(
         Statement::Query(select) => add_select(alloc, rel, with_names, select.get(), plan, out),
         Statement::CreateTable { table, columns, .. } => create_table(alloc, rel, table, columns),
         Statement::Insert { table, .. } => insert_rows(alloc, rel, table, plan),
-        _ => Err(refused(alloc, LATER)),
+        _ => Err(refusal(alloc, LATER)),
     }
 }

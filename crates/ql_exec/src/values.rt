@@ -9,7 +9,7 @@ ghost use Rattle.ql_rel.specs.StatementEffects as effect;
 ghost use Rattle.ql_exec.specs.Answers.{Answers, AreTypedAt};
 
 use crate::ExecFault;
-use crate::fault::refused;
+use crate::fault::refusal;
 use lldb_base::Trouble;
 use ql_edge::Items;
 use ql_eval::{EvalFault, Typed, TypedRows, Typeds, eval};
@@ -26,9 +26,9 @@ fn value_of(alloc: Global, expr: &Typed, row: &[Value]) -> Result<Value, ExecFau
 {
     match eval(alloc, expr, row) {
         Ok(value) => Ok(value),
-        Err(EvalFault::Divide) => Err(refused(alloc, DIVIDE)),
-        Err(EvalFault::Range) => Err(refused(alloc, RANGE)),
-        Err(EvalFault::NegativeCount) => Err(refused(alloc, NEGATIVE_COUNT)),
+        Err(EvalFault::Divide) => Err(refusal(alloc, DIVIDE)),
+        Err(EvalFault::Range) => Err(refusal(alloc, RANGE)),
+        Err(EvalFault::NegativeCount) => Err(refusal(alloc, NEGATIVE_COUNT)),
         Err(EvalFault::NoMemory) => Err(ExecFault::Trouble(Trouble::NoMemory)),
     }
 }

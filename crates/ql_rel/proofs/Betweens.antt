@@ -11,12 +11,12 @@ use Rattle.ql_syntax.specs.declared.typed.Typed.TheVariants as t
 use Rattle.ql_syntax.specs.declared.typing.Typing.{Typing}
 use Rattle.ql_syntax.specs.declared.typing.Typing.TheVariants.{OnlyNull, OfKind, Ill}
 use Rattle.ql_syntax.specs.Typing.{IsTyped, among, given_type, truth_of, meet, meet_all, operator_type}
-use Rattle.ql_rel.specs.declared.checked.Checked.{Checked}
-use Rattle.ql_rel.specs.Answers.{then_with, refused}
-use Rattle.ql_rel.specs.Checked.{meet_type, kind_or_int64, require_type}
-use Rattle.ql_rel.specs.Operands.{first_kind, pair, between_tree, between, truth}
+use Rattle.ql_syntax.specs.declared.checked.Checked.{Checked}
+use Rattle.ql_syntax.specs.Answers.{then_with, refused}
+use Rattle.ql_syntax.specs.Checked.{meet_type, kind_or_int64, require_type}
+use Rattle.ql_syntax.specs.Operands.{first_kind, pair, between_tree, between, truth}
 use Rattle.ql_syntax.specs.Functions.{takes}
-use Rattle.ql_rel.specs.Calls.{first_part, count_of, aggregate, aggregate_first, group_value, group_call}
+use Rattle.ql_syntax.specs.Calls.{first_part, count_of, aggregate, aggregate_first, group_value, group_call}
 use Rattle.ql_syntax.specs.GroupTyping.{or_int64, aggregate_type, type_by}
 use Rattle.ql_syntax.proofs.TypedBy.{by_rows, by_aggregate}
 use Rattle.ql_rel.proofs.Fits.{Fits, then_ok, same_ok, ruled_ok, known_fits, meet_fits}

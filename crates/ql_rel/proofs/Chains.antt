@@ -14,10 +14,10 @@ use Rattle.ql_syntax.specs.declared.typing.Typing.TheVariants.{OfKind}
 use Rattle.ql_syntax.specs.GroupTyping.{group_step, group_link, type_by}
 use Rattle.ql_syntax.specs.Typing.{IsTyped, operator_type, StepType, chain_type}
 use Rattle.ql_syntax.proofs.TypedBy.{types_of, links_of, link_by, by_chain, by_link}
-use Rattle.ql_rel.specs.declared.checked.Checked.{Checked}
-use Rattle.ql_rel.specs.Answers.{Answer, then_with, refused}
-use Rattle.ql_rel.specs.Checked.{no_literal, meet_type, require_type}
-use Rattle.ql_rel.specs.Operands.{Step, link, pair, behind_layer, longer_chain, by_table, meet_sides, is_like, is_arithmetic, shares_kind, operation, add_step, add_steps}
+use Rattle.ql_syntax.specs.declared.checked.Checked.{Checked}
+use Rattle.ql_syntax.specs.Answers.{Answer, then_with, refused}
+use Rattle.ql_syntax.specs.Checked.{no_literal, meet_type, require_type}
+use Rattle.ql_syntax.specs.Operands.{Step, link, pair, behind_layer, longer_chain, by_table, meet_sides, is_like, is_arithmetic, shares_kind, operation, add_step, add_steps}
 use Rattle.ql_rel.proofs.Fits.{Fits, then_ok, same_ok, ruled_ok, both_true, meet_fits}
 
 -- a choice that stands

@@ -13,9 +13,9 @@ use Rattle.ql_rel.specs.declared.db.Db.{Db}
 use Rattle.ql_rel.specs.declared.plan.Plan.{Plan}
 use Rattle.ql_rel.specs.declared.schema.Schema.{Schema}
 use Rattle.ql_rel.specs.declared.schema.TableSchema.{TableSchema}
-use Rattle.ql_rel.specs.declared.scope.Scope.{Scope}
+use Rattle.ql_syntax.specs.declared.scope.Scope.{Scope}
 use Rattle.ql_rel.specs.Accepted.{is_reserved, rule_scope, is_rule, is_default, is_column, are_columns}
-use Rattle.ql_rel.specs.Answers.{Answer, then_with}
+use Rattle.ql_syntax.specs.Answers.{Answer, then_with}
 use Rattle.ql_rel.specs.Changes.{table_created, new_table}
 use Rattle.ql_rel.specs.CreatePlans.{no_parts, takes_all, without_conditions, new_column, new_columns, some_columns, create_table_plan}
 use Rattle.ql_rel.specs.Creates.{create_table}

@@ -10,8 +10,8 @@ use Rattle.ql_syntax.specs.declared.syntax.Function.{Function}
 use Rattle.ql_syntax.specs.declared.syntax.Link.{Link, roll-Link}
 use Rattle.ql_syntax.specs.declared.syntax.Select.{Select}
 use Rattle.ql_syntax.proofs.PartEquations.{by_parts, by_link_part}
-use Rattle.ql_rel.specs.declared.scope.Scope.{Scope}
-use Rattle.ql_rel.specs.Types.{Judged, JudgedLink, expr_step, link_step, judge, judge_link}
+use Rattle.ql_syntax.specs.declared.scope.Scope.{Scope}
+use Rattle.ql_syntax.specs.Resolving.{Judged, JudgedLink, expr_step, link_step, judge, judge_link}
 
 pub judge_of_chain : (scope : Scope) (first : Expr) (rest : List Link) → judge scope (e.Chain first rest) ≡ expr_step scope (Expr-F.Chain (judge scope first) (map (judge_link scope) rest))
 judge_of_chain scope first rest = ap (judge scope) (sym (e.rolls-Chain first rest)) ∙ by_parts Judged JudgedLink (expr_step scope) link_step (Expr-F.Chain first rest)

@@ -3,7 +3,7 @@ use Rattle.std.proofs.Common.{◌≡◌, ℕ, suc, ◌+◌, ◌<◌, ◌≤◌, 
 use Rattle.std.proofs.lemmas.Bool.Decides.{nat_tests}
 use Rattle.ql_syntax.specs.declared.statement.Statement.{Statement}
 use Rattle.ql_rel.specs.declared.db.Db.{Db}
-use Rattle.ql_rel.specs.Answers.{Answer}
+use Rattle.ql_syntax.specs.Answers.{Answer}
 use Rattle.ql_rel.specs.Courses.{course, acknowledged, follows}
 use Rattle.ql_rel.specs.Events.{Event, shows, commits, Course, shown_text, commits_of, places_from, places_of, told_by, kept_after}
 use Rattle.ql_rel.specs.EventLaws.{NeverFall, CommitsOnce}

@@ -14,10 +14,10 @@ use Rattle.ql_value.specs.Kinds.{is_integer, same_kind}
 use Rattle.ql_syntax.specs.declared.typing.Typing.{Typing}
 use Rattle.ql_syntax.specs.declared.typing.Typing.TheVariants.{OnlyNull, OfKind, Ill}
 use Rattle.ql_syntax.specs.Typing.{IsTyped, among, given_type}
-use Rattle.ql_rel.specs.declared.checked.Literal.{Literal}
-use Rattle.ql_rel.specs.declared.checked.Checked.{Checked}
-use Rattle.ql_rel.specs.Answers.{Answer, then_with, refused}
-use Rattle.ql_rel.specs.Checked.{of_type, number_of, literal_kind, literal_of, literal_in, narrow, take_kind, meet_type, is_number_type, kind_or_int64, require_type, in_brackets}
+use Rattle.ql_syntax.specs.declared.checked.Literal.{Literal}
+use Rattle.ql_syntax.specs.declared.checked.Checked.{Checked}
+use Rattle.ql_syntax.specs.Answers.{Answer, then_with, refused}
+use Rattle.ql_syntax.specs.Checked.{of_type, number_of, literal_kind, literal_of, literal_in, narrow, take_kind, meet_type, is_number_type, kind_or_int64, require_type, in_brackets}
 use Rattle.ql_syntax.specs.GroupTyping.{type_by}
 use Rattle.ql_syntax.proofs.TypedBy.{by_constant, by_narrow}
 

@@ -2,7 +2,7 @@
 use Rattle.std.proofs.Common.{◌≡◌, ℕ, ◌+◌, ◌<◌, List, [], ◌∷◌, ◌++◌, map, drop, get_or, length, Ok, Err, refl, sym, ap, subst, ◌∙◌, append_assoc, append-nil}
 use Rattle.std.proofs.lemmas.List.{drop_more}
 use Rattle.ql_value.specs.declared.refusal.Refusal.{Refusal}
-use Rattle.ql_rel.specs.Answers.{Answer, then_with, all_of}
+use Rattle.ql_syntax.specs.Answers.{Answer, then_with, all_of}
 
 -- answers for further things behind those that are there
 abbrev pub behind : {A : Type 0} → List A → Answer (List A) → Answer (List A)

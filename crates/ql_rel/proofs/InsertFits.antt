@@ -12,13 +12,13 @@ use Rattle.ql_syntax.specs.declared.typed.Typed.{Typed}
 use Rattle.ql_syntax.specs.declared.typing.Typing.{Typing}
 use Rattle.ql_syntax.specs.declared.typing.Typing.TheVariants.{OfKind}
 use Rattle.ql_syntax.specs.Typing.{IsTyped, among, type_of}
-use Rattle.ql_rel.specs.declared.checked.Checked.{Checked}
-use Rattle.ql_rel.specs.Answers.{then_with, all_of}
-use Rattle.ql_rel.specs.Checked.{meet_type, require_type}
+use Rattle.ql_syntax.specs.declared.checked.Checked.{Checked}
+use Rattle.ql_syntax.specs.Answers.{then_with, all_of}
+use Rattle.ql_syntax.specs.Checked.{meet_type, require_type}
 use Rattle.ql_rel.specs.InsertPlans.{for_kind, for_columns, counted_for, value_row, source_rows}
 use Rattle.ql_rel.specs.InsertTypes.{RowTyped, RowsTyped}
 use Rattle.ql_rel.specs.Plans.{row_scope}
-use Rattle.ql_rel.specs.Types.{check_expr}
+use Rattle.ql_syntax.specs.Resolving.{check_expr}
 use Rattle.ql_rel.proofs.Fits.{Fits, then_ok, same_ok, ruled_ok, meet_fits}
 use Rattle.ql_rel.proofs.Judged.{is_so}
 use Rattle.ql_syntax.proofs.NoAggregates.{row_type}

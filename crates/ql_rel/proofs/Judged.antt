@@ -19,13 +19,13 @@ use Rattle.ql_syntax.specs.Aggregates.{is_aggregate}
 use Rattle.ql_syntax.specs.PartFolds.{fold_each}
 use Rattle.ql_syntax.proofs.PartEquations.{by_parts, by_link_part}
 use Rattle.ql_syntax.proofs.TypedBy.{by_constant}
-use Rattle.ql_rel.specs.declared.checked.Checked.{Checked}
-use Rattle.ql_rel.specs.declared.scope.Scope.{Scope}
-use Rattle.ql_rel.specs.Answers.{Answer, then_with, refused}
-use Rattle.ql_rel.specs.Checked.{of_type, literal_of, in_brackets}
-use Rattle.ql_rel.specs.Operands.{add_steps, apply_ops, in_list, between, null_test}
-use Rattle.ql_rel.specs.Calls.{convert_to, row_call, allowed_call}
-use Rattle.ql_rel.specs.Types.{Judged, JudgedLink, of_answer, expr_step, link_step, judge, judge_link, steps, answers, bare_name, id_of_part, id_call, is_id, call, text_of}
+use Rattle.ql_syntax.specs.declared.checked.Checked.{Checked}
+use Rattle.ql_syntax.specs.declared.scope.Scope.{Scope}
+use Rattle.ql_syntax.specs.Answers.{Answer, then_with, refused}
+use Rattle.ql_syntax.specs.Checked.{of_type, literal_of, in_brackets}
+use Rattle.ql_syntax.specs.Operands.{add_steps, apply_ops, in_list, between, null_test}
+use Rattle.ql_syntax.specs.Calls.{convert_to, row_call, allowed_call}
+use Rattle.ql_syntax.specs.Resolving.{Judged, JudgedLink, of_answer, expr_step, link_step, judge, judge_link, steps, answers, bare_name, id_of_part, id_call, is_id, call, text_of}
 use Rattle.ql_rel.proofs.Fits.{Fits, then_ok, same_ok, known_fits, literal_fits, brackets_fit}
 use Rattle.ql_rel.proofs.Chains.{chosen, EachStep, chain_fits}
 use Rattle.ql_rel.proofs.Parts.{Each, prefixed_fits, in_fits, null_fits, convert_fits, call_fits}

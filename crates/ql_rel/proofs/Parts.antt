@@ -12,13 +12,13 @@ use Rattle.ql_syntax.specs.declared.typed.Typed.TheVariants as t
 use Rattle.ql_syntax.specs.declared.typing.Typing.{Typing}
 use Rattle.ql_syntax.specs.declared.typing.Typing.TheVariants.{OnlyNull, OfKind, Ill}
 use Rattle.ql_syntax.specs.Typing.{IsTyped, among, given_type, truth_of, meet_all, prefix_type, prefixed_type, converts, call_type}
-use Rattle.ql_rel.specs.declared.checked.Literal.{Literal}
-use Rattle.ql_rel.specs.declared.checked.Checked.{Checked}
-use Rattle.ql_rel.specs.Answers.{then_with, refused}
-use Rattle.ql_rel.specs.Checked.{no_literal, of_type, literal_of, meet_type, require_type}
-use Rattle.ql_rel.specs.Operands.{ops_before, ops_by_table, apply_ops, apply_ops_by, ends_with_minus, but_last, first_kind, meet_each, types, trees, truth, in_list, null_test}
+use Rattle.ql_syntax.specs.declared.checked.Literal.{Literal}
+use Rattle.ql_syntax.specs.declared.checked.Checked.{Checked}
+use Rattle.ql_syntax.specs.Answers.{then_with, refused}
+use Rattle.ql_syntax.specs.Checked.{no_literal, of_type, literal_of, meet_type, require_type}
+use Rattle.ql_syntax.specs.Operands.{ops_before, ops_by_table, apply_ops, apply_ops_by, ends_with_minus, but_last, first_kind, meet_each, types, trees, truth, in_list, null_test}
 use Rattle.ql_syntax.specs.Functions.{takes}
-use Rattle.ql_rel.specs.Calls.{convert_by_table, convert_literal, convert_to, call_by_table, row_value, row_call}
+use Rattle.ql_syntax.specs.Calls.{convert_by_table, convert_literal, convert_to, call_by_table, row_value, row_call}
 use Rattle.ql_syntax.specs.GroupTyping.{type_by}
 use Rattle.ql_syntax.proofs.TypedBy.{by_unary, by_convert, by_call, by_in, by_is_null}
 use Rattle.ql_rel.proofs.Fits.{Fits, then_ok, same_ok, ruled_ok, known_fits, literal_fits, literal_in_fits, meet_fits}

@@ -3,14 +3,14 @@ use Rattle.std.proofs.Common.{◌≡◌, ℕ, suc, Bool, true, false, ◌&&◌, 
 use Rattle.ql_syntax.specs.declared.typed.Typed.TheVariants as t
 use Rattle.ql_syntax.specs.declared.typing.Typing.{Typing}
 use Rattle.ql_syntax.specs.Typing.{IsTyped, place_type}
-use Rattle.ql_rel.specs.declared.checked.Checked.{Checked}
-use Rattle.ql_rel.specs.declared.scope.Slot.{Slot}
-use Rattle.ql_rel.specs.declared.scope.Scope.{Scope}
-use Rattle.ql_rel.specs.declared.scope.RowPlace.{RowPlace}
-use Rattle.ql_rel.specs.Answers.{Answer}
-use Rattle.ql_rel.specs.Checked.{of_type}
-use Rattle.ql_rel.specs.Scopes.{places_named, the_one, first_some, seen_slots, written, is_of_set, is_of_column, column_place, id_place, id_place_of}
-use Rattle.ql_rel.specs.Types.{at_place}
+use Rattle.ql_syntax.specs.declared.checked.Checked.{Checked}
+use Rattle.ql_syntax.specs.declared.scope.Slot.{Slot}
+use Rattle.ql_syntax.specs.declared.scope.Scope.{Scope}
+use Rattle.ql_syntax.specs.declared.scope.RowPlace.{RowPlace}
+use Rattle.ql_syntax.specs.Answers.{Answer}
+use Rattle.ql_syntax.specs.Checked.{of_type}
+use Rattle.ql_syntax.specs.Scopes.{places_named, the_one, first_some, seen_slots, written, is_of_set, is_of_column, column_place, id_place, id_place_of}
+use Rattle.ql_syntax.specs.Resolving.{at_place}
 use Rattle.ql_syntax.proofs.TypedBy.{by_place}
 use Rattle.ql_rel.proofs.Fits.{Fits, then_ok, same_ok, known_fits}
 

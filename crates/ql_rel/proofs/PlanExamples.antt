@@ -21,17 +21,17 @@ use Rattle.ql_value.specs.Kinds.{is_integer, is_truth}
 use Rattle.ql_syntax.specs.declared.typing.Typing.{Typing}
 use Rattle.ql_syntax.specs.declared.typing.Typing.TheVariants.{OfKind, Ill}
 use Rattle.ql_syntax.specs.Typing.{among, meet, place_type}
-use Rattle.ql_rel.specs.declared.scope.Slot.{Slot}
+use Rattle.ql_syntax.specs.declared.scope.Slot.{Slot}
 use Rattle.ql_rel.specs.declared.select.ResultField.{ResultField}
 use Rattle.ql_rel.specs.declared.select.Source.{Source}
 use Rattle.ql_rel.specs.declared.select.Limits.{Limits}
 use Rattle.ql_rel.specs.declared.plan.Plan.{Plan}
 use Rattle.ql_rel.specs.declared.schema.Schema.{Schema}
 use Rattle.ql_syntax.specs.Aggregates.{has_aggregate, aggregate_step, aggregate_link}
-use Rattle.ql_rel.specs.Answers.{Answer, refused, refused_at, then_with}
-use Rattle.ql_rel.specs.Checked.{of_type, require_type}
-use Rattle.ql_rel.specs.Scopes.{column_place}
-use Rattle.ql_rel.specs.Types.{Judged, ref_of, plain_name}
+use Rattle.ql_syntax.specs.Answers.{Answer, refused, refused_at, then_with}
+use Rattle.ql_syntax.specs.Checked.{of_type, require_type}
+use Rattle.ql_syntax.specs.Scopes.{column_place}
+use Rattle.ql_syntax.specs.Resolving.{Judged, ref_of, plain_name}
 use Rattle.ql_rel.specs.Plans.{add_table, add_source, add_set, add_sets, set_slots, without_join, field_name, star, any_field_aggregate, key_scope, row_scope, table_named, resolve_among, resolve_if, resolve_each, is_some_list, output_of, limits_of, plan_of, select_plan}
 use Rattle.ql_syntax.specs.GroupTyping.{aggregate_type, type_by, type_in_group}
 use Rattle.ql_syntax.proofs.TypedBy.{by_roll, by_constant, by_place, by_rows, by_aggregate}

@@ -6,12 +6,12 @@ use Rattle.ql_syntax.specs.Typing.{IsTyped, among, type_of}
 use Rattle.ql_syntax.specs.declared.syntax.Expr.{Expr}
 use Rattle.ql_syntax.specs.declared.syntax.Field.{Field, out-Field}
 use Rattle.ql_syntax.specs.declared.typed.Typed.{Typed}
-use Rattle.ql_rel.specs.declared.checked.Checked.{Checked}
-use Rattle.ql_rel.specs.declared.scope.Scope.{Scope}
+use Rattle.ql_syntax.specs.declared.checked.Checked.{Checked}
+use Rattle.ql_syntax.specs.declared.scope.Scope.{Scope}
 use Rattle.ql_rel.specs.declared.select.ResultField.{ResultField}
-use Rattle.ql_rel.specs.Answers.{then_with}
-use Rattle.ql_rel.specs.Checked.{require_type}
-use Rattle.ql_rel.specs.Types.{check_expr, plain_name}
+use Rattle.ql_syntax.specs.Answers.{then_with}
+use Rattle.ql_syntax.specs.Checked.{require_type}
+use Rattle.ql_syntax.specs.Resolving.{check_expr, plain_name}
 use Rattle.ql_rel.specs.Plans.{field_name, resolve_among, resolve_if, resolve, resolve_each, result_field, written_fields}
 use Rattle.ql_syntax.specs.GroupTyping.{type_in_group}
 use Rattle.ql_rel.specs.PlanTypes.{AreTyped}

@@ -12,7 +12,7 @@ use Rattle.ql_syntax.specs.declared.syntax.Join.{Join}
 use Rattle.ql_syntax.specs.declared.syntax.Link.{Link}
 use Rattle.ql_syntax.specs.declared.syntax.Select.{Select, out-Select}
 use Rattle.ql_syntax.specs.declared.syntax.SetSource.{SetSource, out-SetSource}
-use Rattle.ql_rel.specs.declared.scope.Slot.{Slot}
+use Rattle.ql_syntax.specs.declared.scope.Slot.{Slot}
 use Rattle.ql_rel.specs.declared.select.ResultField.{ResultField}
 use Rattle.ql_rel.specs.declared.select.Source.{Source}
 use Rattle.ql_rel.specs.declared.select.Output.{Output}
@@ -20,7 +20,7 @@ use Rattle.ql_rel.specs.declared.select.Limits.{Limits}
 use Rattle.ql_rel.specs.declared.plan.Plan.{Plan}
 use Rattle.ql_rel.specs.declared.schema.Schema.{Schema}
 use Rattle.ql_rel.specs.declared.schema.TableSchema.{TableSchema}
-use Rattle.ql_rel.specs.Answers.{then_with, refused, refused_at}
+use Rattle.ql_syntax.specs.Answers.{then_with, refused, refused_at}
 use Rattle.ql_syntax.specs.Aggregates.{has_aggregate}
 use Rattle.ql_rel.specs.Plans.{table_named, is_metadata, column_slots, set_slots, is_taken, set_name, add_table, add_source, add_set, add_sets, without_join, row_scope, resolve_if, resolve_each, star_field, star_fields, are_several, star, result_fields, any_field_aggregate, field_slots, key_scope, is_some_list, row_conditions, source_of, keyed_output, output_of, limits_of, plan_of, plan_behind, select_plan}
 use Rattle.ql_rel.specs.PlanTypes.{slot_types, types_if, row_types, AreTyped, PlanTyped}

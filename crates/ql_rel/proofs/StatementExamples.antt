@@ -10,12 +10,12 @@ use Rattle.ql_syntax.specs.declared.statement.RowSource.TheVariants as source
 use Rattle.ql_syntax.specs.declared.statement.Statement.TheVariants as s
 use Rattle.ql_syntax.specs.declared.typed.Typed.TheVariants as t
 use Rattle.ql_syntax.specs.declared.typing.Typing.TheVariants.{OnlyNull, OfKind}
-use Rattle.ql_rel.specs.declared.checked.Checked.{Checked}
+use Rattle.ql_syntax.specs.declared.checked.Checked.{Checked}
 use Rattle.ql_rel.specs.declared.db.Db.{Db}
 use Rattle.ql_rel.specs.declared.db.Row.{Row}
-use Rattle.ql_rel.specs.Answers.{refused, refused_at}
+use Rattle.ql_syntax.specs.Answers.{refused, refused_at}
 use Rattle.ql_rel.specs.Changes.{row_of}
-use Rattle.ql_rel.specs.Checked.{of_type, literal_of}
+use Rattle.ql_syntax.specs.Checked.{of_type, literal_of}
 use Rattle.ql_rel.specs.Courses.{course, committed}
 use Rattle.ql_rel.specs.Databases.{empty_db}
 use Rattle.ql_rel.specs.Events.{Event, shows, refused_in, places_of, told_by}

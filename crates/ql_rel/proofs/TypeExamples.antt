@@ -17,13 +17,13 @@ use Rattle.ql_syntax.specs.declared.typed.Typed.TheVariants as t
 use Rattle.ql_syntax.specs.declared.typed.TypedLink.{TypedLink}
 use Rattle.ql_syntax.specs.declared.typing.Typing.{Typing}
 use Rattle.ql_syntax.specs.declared.typing.Typing.TheVariants.{OnlyNull, OfKind}
-use Rattle.ql_rel.specs.declared.checked.Checked.{Checked}
-use Rattle.ql_rel.specs.declared.scope.Slot.{Slot}
-use Rattle.ql_rel.specs.declared.scope.Scope.{Scope}
-use Rattle.ql_rel.specs.Answers.{Answer, refused, refused_at}
-use Rattle.ql_rel.specs.Checked.{of_type}
-use Rattle.ql_rel.specs.Operands.{link, behind_layer, longer_chain}
-use Rattle.ql_rel.specs.Types.{Judged, expr_step}
+use Rattle.ql_syntax.specs.declared.checked.Checked.{Checked}
+use Rattle.ql_syntax.specs.declared.scope.Slot.{Slot}
+use Rattle.ql_syntax.specs.declared.scope.Scope.{Scope}
+use Rattle.ql_syntax.specs.Answers.{Answer, refused, refused_at}
+use Rattle.ql_syntax.specs.Checked.{of_type}
+use Rattle.ql_syntax.specs.Operands.{link, behind_layer, longer_chain}
+use Rattle.ql_syntax.specs.Resolving.{Judged, expr_step}
 
 -- the id and the columns of a record set
 abbrev id_of : List ℕ → Slot

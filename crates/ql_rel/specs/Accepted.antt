@@ -16,14 +16,14 @@ use Rattle.ql_syntax.specs.Typing.{among}
 use Rattle.ql_rel.specs.declared.schema.Index.{Index}
 use Rattle.ql_rel.specs.declared.schema.Schema.{Schema}
 use Rattle.ql_rel.specs.declared.schema.TableSchema.{TableSchema}
-use Rattle.ql_rel.specs.Answers.{Answer, then_with}
-use Rattle.ql_rel.specs.Checked.{require_type, meet_type}
+use Rattle.ql_syntax.specs.Answers.{Answer, then_with}
+use Rattle.ql_syntax.specs.Checked.{require_type, meet_type}
 use Rattle.ql_rel.specs.Creates.{create_statements}
 use Rattle.ql_rel.specs.Databases.{empty_schema}
 use Rattle.ql_rel.specs.Limits.{is_past_table, is_past_index}
 use Rattle.ql_rel.specs.Names.{placed, has_name, are_different, column_names, is_name_taken}
-use Rattle.ql_rel.specs.declared.scope.Scope.{Scope}
-use Rattle.ql_rel.specs.Types.{check_expr}
+use Rattle.ql_syntax.specs.declared.scope.Scope.{Scope}
+use Rattle.ql_syntax.specs.Resolving.{check_expr}
 
 -- the name begins with two underscores
 abbrev pub is_reserved : List ℕ → Bool

@@ -4,7 +4,7 @@ use Rattle.ql_value.specs.declared.refusal.TheConstants.{COUNT, LATER}
 use Rattle.ql_syntax.specs.declared.statement.ColumnDef.{ColumnDef}
 use Rattle.ql_rel.specs.declared.plan.Plan.{Plan}
 use Rattle.ql_rel.specs.declared.schema.Schema.{Schema}
-use Rattle.ql_rel.specs.Answers.{Answer, refused, then_with}
+use Rattle.ql_syntax.specs.Answers.{Answer, refused, then_with}
 use Rattle.ql_rel.specs.NewNames.{new_name, free_table, free_column}
 
 -- a plan without parts

@@ -11,16 +11,16 @@ use Rattle.ql_syntax.specs.declared.syntax.Expr.{Expr}
 use Rattle.ql_syntax.specs.declared.typed.Typed.{Typed}
 use Rattle.ql_syntax.specs.declared.typing.Typing.TheVariants.{OfKind}
 use Rattle.ql_syntax.specs.Typing.{among}
-use Rattle.ql_rel.specs.declared.checked.Checked.{Checked}
+use Rattle.ql_syntax.specs.declared.checked.Checked.{Checked}
 use Rattle.ql_rel.specs.declared.plan.Plan.{Plan}
 use Rattle.ql_rel.specs.declared.schema.Index.{Index}
 use Rattle.ql_rel.specs.declared.schema.Schema.{Schema}
-use Rattle.ql_rel.specs.Answers.{Answer, refused, then_with, all_of}
-use Rattle.ql_rel.specs.Checked.{meet_type, require_type}
+use Rattle.ql_syntax.specs.Answers.{Answer, refused, then_with, all_of}
+use Rattle.ql_syntax.specs.Checked.{meet_type, require_type}
 use Rattle.ql_rel.specs.CreatePlans.{no_parts, takes_all}
 use Rattle.ql_rel.specs.NewNames.{known_table}
 use Rattle.ql_rel.specs.Plans.{row_scope}
-use Rattle.ql_rel.specs.Types.{check_expr}
+use Rattle.ql_syntax.specs.Resolving.{check_expr}
 
 -- a value for a column of a kind: an untyped one takes the kind, 7 where it is outside, and another has it, else 5
 abbrev pub for_kind : Kind → Checked → Answer Typed

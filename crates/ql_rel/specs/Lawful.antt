@@ -15,8 +15,8 @@ use Rattle.ql_rel.specs.declared.db.Table.{Table}
 use Rattle.ql_rel.specs.declared.schema.Index.{Index}
 use Rattle.ql_rel.specs.Accepted.{rule_scope}
 use Rattle.ql_rel.specs.Limits.{key_of}
-use Rattle.ql_rel.specs.declared.scope.Scope.{Scope}
-use Rattle.ql_rel.specs.Types.{check_expr}
+use Rattle.ql_syntax.specs.declared.scope.Scope.{Scope}
+use Rattle.ql_syntax.specs.Resolving.{check_expr}
 use Rattle.ql_rel.specs.WellFormed.{IsWellFormed}
 
 -- the value is NULL

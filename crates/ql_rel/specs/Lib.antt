@@ -1,9 +1,3 @@
-pub mod Answers
-pub mod Scopes
-pub mod Checked
-pub mod Operands
-pub mod Calls
-pub mod Types
 pub mod Plans
 pub mod PlanTypes
 pub mod Rows

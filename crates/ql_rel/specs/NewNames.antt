@@ -6,7 +6,7 @@ use Rattle.ql_value.specs.declared.refusal.TheConstants.{RESERVED}
 use Rattle.ql_rel.specs.declared.schema.Schema.{Schema}
 use Rattle.ql_rel.specs.declared.schema.TableSchema.{TableSchema}
 use Rattle.ql_rel.specs.Accepted.{is_reserved}
-use Rattle.ql_rel.specs.Answers.{Answer, refused_at}
+use Rattle.ql_syntax.specs.Answers.{Answer, refused_at}
 use Rattle.ql_rel.specs.Names.{has_name, is_name_taken}
 use Rattle.ql_rel.specs.Plans.{table_named, is_metadata}
 

@@ -8,10 +8,10 @@ use Rattle.ql_syntax.specs.declared.statement.Statement.{Statement}
 use Rattle.ql_syntax.specs.declared.statement.Statement.TheVariants as s
 use Rattle.ql_syntax.specs.declared.syntax.Select.{out-Select}
 use Rattle.ql_syntax.specs.declared.typed.Typed.{Typed}
-use Rattle.ql_rel.specs.declared.scope.Slot.{Slot}
+use Rattle.ql_syntax.specs.declared.scope.Slot.{Slot}
 use Rattle.ql_rel.specs.declared.plan.Plan.{Plan}
 use Rattle.ql_rel.specs.declared.schema.Schema.{Schema}
-use Rattle.ql_rel.specs.Answers.{Answer}
+use Rattle.ql_syntax.specs.Answers.{Answer}
 use Rattle.ql_rel.specs.Plans.{add_sets}
 
 -- the types of the values at places

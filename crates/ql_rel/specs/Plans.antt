@@ -20,8 +20,8 @@ use Rattle.ql_value.specs.Kinds.{is_integer, is_truth}
 use Rattle.ql_syntax.specs.declared.typing.Typing.TheVariants.{OfKind}
 use Rattle.ql_syntax.specs.Aggregates.{any_aggregate}
 use Rattle.ql_syntax.specs.Typing.{among}
-use Rattle.ql_rel.specs.declared.scope.Slot.{Slot}
-use Rattle.ql_rel.specs.declared.scope.Scope.{Scope}
+use Rattle.ql_syntax.specs.declared.scope.Slot.{Slot}
+use Rattle.ql_syntax.specs.declared.scope.Scope.{Scope}
 use Rattle.ql_rel.specs.declared.select.ResultField.{ResultField}
 use Rattle.ql_rel.specs.declared.select.Source.{Source}
 use Rattle.ql_rel.specs.declared.select.Output.{Output}
@@ -29,10 +29,10 @@ use Rattle.ql_rel.specs.declared.select.Limits.{Limits}
 use Rattle.ql_rel.specs.declared.plan.Plan.{Plan}
 use Rattle.ql_rel.specs.declared.schema.Schema.{Schema}
 use Rattle.ql_rel.specs.declared.schema.TableSchema.{TableSchema}
-use Rattle.ql_rel.specs.Answers.{Answer, refused, refused_at, then_with, all_of}
-use Rattle.ql_rel.specs.Scopes.{is_called, written}
-use Rattle.ql_rel.specs.Checked.{of_type, require_type}
-use Rattle.ql_rel.specs.Types.{Ref, plain_name, check_expr}
+use Rattle.ql_syntax.specs.Answers.{Answer, refused, refused_at, then_with, all_of}
+use Rattle.ql_syntax.specs.Scopes.{is_called, written}
+use Rattle.ql_syntax.specs.Checked.{of_type, require_type}
+use Rattle.ql_syntax.specs.Resolving.{Ref, plain_name, check_expr}
 
 -- the table with a name
 abbrev pub table_named : List ℕ → List TableSchema → Option TableSchema

@@ -5,7 +5,7 @@ use Rattle.ql_value.specs.declared.refusal.TheConstants.{LATER, DIVIDE, RANGE, N
 use Rattle.ql_value.specs.declared.value.Value.{Value}
 use Rattle.ql_syntax.specs.Values.{Outcome, gives, refuses, means_nothing, divide, range, negative_count, value_at}
 use Rattle.ql_syntax.specs.declared.typed.Typed.{Typed}
-use Rattle.ql_rel.specs.Answers.{Answer, refused, all_of}
+use Rattle.ql_syntax.specs.Answers.{Answer, refused, all_of}
 
 -- the values of a row but the first, each behind a comma and a space
 abbrev pub more_values : List Value → List ℕ

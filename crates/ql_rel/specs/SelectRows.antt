@@ -16,7 +16,7 @@ use Rattle.ql_syntax.specs.declared.typed.Typed.{Typed}
 use Rattle.ql_rel.specs.declared.db.Db.{Db}
 use Rattle.ql_rel.specs.declared.db.Row.{Row}
 use Rattle.ql_rel.specs.declared.plan.Plan.{Plan}
-use Rattle.ql_rel.specs.Answers.{Answer, refused, then_with, all_of}
+use Rattle.ql_syntax.specs.Answers.{Answer, refused, then_with, all_of}
 use Rattle.ql_rel.specs.Databases.{schema_of, rows_at}
 use Rattle.ql_rel.specs.NewNames.{place_named}
 use Rattle.ql_rel.specs.Rows.{row_line, values_of}

@@ -11,7 +11,7 @@ use Rattle.ql_rel.specs.declared.fault.RelFault.TheVariants as fault
 use Rattle.ql_value.specs.declared.refusal.TheConstants.{ROW_TOO_LONG, KEY_TOO_LONG, IDS_SPENT, TABLE_LIMIT_REFUSAL}
 use Rattle.ql_rel.specs.declared.plan.Plan.{Plan}
 use Rattle.ql_rel.specs.declared.schema.TableSchema.{TableSchema}
-use Rattle.ql_rel.specs.Answers.{Answer, refused, refused_at, then_with, all_of}
+use Rattle.ql_syntax.specs.Answers.{Answer, refused, refused_at, then_with, all_of}
 use Rattle.ql_rel.specs.Changes.{inserted, table_created}
 use Rattle.ql_rel.specs.Databases.{schema_of}
 use Rattle.ql_rel.specs.NewNames.{place_named}

@@ -5,7 +5,7 @@ use Rattle.ql_syntax.specs.declared.statement.Statement.{Statement}
 use Rattle.ql_syntax.specs.declared.statement.Statement.TheVariants as s
 use Rattle.ql_rel.specs.declared.plan.Plan.{Plan}
 use Rattle.ql_rel.specs.declared.schema.Schema.{Schema}
-use Rattle.ql_rel.specs.Answers.{Answer, refused}
+use Rattle.ql_syntax.specs.Answers.{Answer, refused}
 use Rattle.ql_rel.specs.CreatePlans.{create_table_plan}
 use Rattle.ql_rel.specs.InsertPlans.{insert_plan}
 use Rattle.ql_rel.specs.Plans.{select_plan}

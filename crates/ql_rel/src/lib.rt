@@ -1,9 +1,7 @@
-//! Tables as values, their schema, what an expression sees and what is known of it, the plans of statements, and the trait
-//! over tables.
+//! Tables as values, their schema, the plans of statements, and the trait over tables.
 #![tactic(auto)]
 
 mod bounds;
-mod checked;
 mod db;
 mod fault;
 mod fitting;
@@ -14,14 +12,12 @@ mod plan;
 mod rel;
 mod schema;
 mod schema_copy;
-mod scope;
 mod select;
 mod text_limit;
 
 pub use bounds::{
     BRACKET_LIMIT, COLUMN_LIMIT, INDEX_LIMIT, KEY_LIMIT, LAST_ID, ROW_LIMIT, TEXT_LIMIT,
 };
-pub use checked::{Checked, CheckedList, Literal};
 pub use db::{Db, Row, Rows, Table, Tables};
 pub use fault::RelFault;
 pub use fitting::is_row_of;
@@ -34,6 +30,5 @@ pub use schema::{Index, Indexes, Schema, TableSchema, TableSchemas};
 pub use schema_copy::{
     add_columns, add_tables, copy_column, copy_index, copy_name, copy_schema, copy_table,
 };
-pub use scope::{RowPlace, Scope, Slot, Slots};
 pub use select::{Limits, Output, ResultField, ResultFields, Source};
 pub use text_limit::is_past_text;

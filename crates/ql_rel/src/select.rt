@@ -1,9 +1,7 @@
 //! The parts of a SELECT as they are checked in turn.
 
-use crate::checked::Checked;
-use crate::scope::Scope;
 use ql_edge::{Bytes, Items};
-use ql_syntax::{Typed, Typeds};
+use ql_syntax::{Checked, Scope, Typed, Typeds};
 
 /// What stands before the fields of a SELECT.
 #[derive(Drop)]

@@ -8,7 +8,7 @@ use Rattle.ql_value.specs.declared.refusal.Refusal.{Refusal}
 use Rattle.lldb_base.specs.declared.trouble.Trouble.{Trouble}
 use Rattle.lldb_base.specs.declared.trouble.Trouble.TheVariants as trouble
 use Rattle.ql_rel.specs.declared.db.Db.{Db}
-use Rattle.ql_rel.specs.Answers as rel
+use Rattle.ql_syntax.specs.Answers as rel
 use Rattle.ql_rel.specs.Courses.{course, follows}
 use Rattle.ql_rel.specs.EventLaws.{EventLaws}
 use Rattle.ql_rel.specs.Events.{Event, shows, commits, refused_in, Course, preceded_by, shown_text}

@@ -11,7 +11,7 @@ use Rattle.lldb_base.specs.declared.trouble.Trouble.TheVariants as trouble
 use Rattle.ql_syntax.specs.declared.statement.Statement.{Statement}
 use Rattle.ql_syntax.specs.declared.statement.Statement.TheVariants as s
 use Rattle.ql_rel.specs.declared.db.Db.{Db}
-use Rattle.ql_rel.specs.Answers as rel
+use Rattle.ql_syntax.specs.Answers as rel
 use Rattle.ql_rel.specs.Refusals.{IsTroubleCaused}
 use Rattle.ql_exec.specs.Carries.{Did, Does, IsCausedExec}
 use Rattle.ql_exec.specs.Depths.{IsDeepEnough}

@@ -5,7 +5,7 @@ use Rattle.ql_edge.specs.Told.{Told, with_shown, ShowsFront}
 use Rattle.lldb_base.specs.declared.trouble.Trouble.{Trouble}
 use Rattle.lldb_base.specs.declared.trouble.Trouble.TheVariants as trouble
 use Rattle.ql_rel.specs.declared.db.Db.{Db}
-use Rattle.ql_rel.specs.Answers.{Answer}
+use Rattle.ql_syntax.specs.Answers.{Answer}
 use Rattle.ql_exec.specs.declared.fault.ExecFault.{ExecFault}
 use Rattle.ql_exec.specs.declared.fault.ExecFault.TheVariants as exec
 use Rattle.ql_shell.specs.declared.fault.StepFault.{StepFault}

@@ -16,3 +16,9 @@ pub mod PartFolds
 pub mod Functions
 pub mod Aggregates
 pub mod GroupTyping
+pub mod Answers
+pub mod Scopes
+pub mod Checked
+pub mod Operands
+pub mod Calls
+pub mod Resolving

@@ -1,13 +1,18 @@
-//! The syntax of the language: trees of statements and expressions, typed expressions, and what they mean and print.
+//! The syntax of the language: trees of statements and expressions, what an expression sees and what is known of it, typed
+//! expressions, and what they mean and print.
 #![tactic(auto)]
 
+mod checked;
 mod copy;
+mod scope;
 mod statement;
 mod syntax;
 mod typed;
 mod typing;
 
+pub use checked::{Checked, CheckedList, Literal};
 pub use copy::copy_expr;
+pub use scope::{RowPlace, Scope, Slot, Slots};
 pub use statement::{
     Assign, Assigns, ColumnDef, ColumnDefs, ExprRows, Item, RowSource, Statement, Statements,
 };

@@ -2,7 +2,7 @@
 use Rattle.std.proofs.Common.{◌≡◌, ◌<◌, subst, length, get_or}
 use Rattle.ql_syntax.specs.declared.syntax.Field.{out-Field}
 use Rattle.ql_rel.specs.Plans as spec
-use Rattle.ql_check.proofs.Turns.{turn_same}
+use Rattle.ql_check_expr.proofs.Turns.{turn_same}
 use Rattle.ql_check.proofs.fields.written_fields.Goals as goal
 
 pub fields-preserved : goal.fields-preserved

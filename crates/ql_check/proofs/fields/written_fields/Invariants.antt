@@ -1,6 +1,6 @@
 use Rattle.std.proofs.Common.{◌≡◌, drop}
 use Rattle.ql_rel.specs.Plans as spec
-use Rattle.ql_check.proofs.Turns.{behind}
+use Rattle.ql_check_expr.proofs.Turns.{behind}
 use Rattle.ql_check.proofs.fields.written_fields.Given as goal
 
 -- the fields so far, and those that are left

@@ -1,7 +1,7 @@
 -- One expression more.
 use Rattle.std.proofs.Common.{◌≡◌, ◌<◌, false, subst, length, get_or}
-use Rattle.ql_rel.specs.Types.{check_expr}
-use Rattle.ql_check.proofs.Turns.{turn_same}
+use Rattle.ql_syntax.specs.Resolving.{check_expr}
+use Rattle.ql_check_expr.proofs.Turns.{turn_same}
 use Rattle.ql_check.proofs.insert.check_each.Goals as goal
 
 pub exprs-preserved : goal.exprs-preserved

@@ -1,7 +1,7 @@
 use Rattle.std.proofs.Common.{◌≡◌, false, map, drop}
-use Rattle.ql_rel.specs.Answers.{all_of}
-use Rattle.ql_rel.specs.Types.{check_expr}
-use Rattle.ql_check.proofs.Turns.{behind}
+use Rattle.ql_syntax.specs.Answers.{all_of}
+use Rattle.ql_syntax.specs.Resolving.{check_expr}
+use Rattle.ql_check_expr.proofs.Turns.{behind}
 use Rattle.ql_check.proofs.insert.check_each.Given as goal
 
 -- the expressions so far, and those that are left

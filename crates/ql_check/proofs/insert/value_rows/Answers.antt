@@ -1,7 +1,7 @@
 -- One row more.
 use Rattle.std.proofs.Common.{◌≡◌, ◌<◌, subst, length, get_or}
 use Rattle.ql_rel.specs.InsertPlans.{value_row}
-use Rattle.ql_check.proofs.Turns.{turn_same}
+use Rattle.ql_check_expr.proofs.Turns.{turn_same}
 use Rattle.ql_check.proofs.insert.value_rows.Goals as goal
 
 pub rows-preserved : goal.rows-preserved

@@ -1,7 +1,7 @@
 use Rattle.std.proofs.Common.{◌≡◌, map, drop}
-use Rattle.ql_rel.specs.Answers.{all_of}
+use Rattle.ql_syntax.specs.Answers.{all_of}
 use Rattle.ql_rel.specs.InsertPlans.{value_row}
-use Rattle.ql_check.proofs.Turns.{behind}
+use Rattle.ql_check_expr.proofs.Turns.{behind}
 use Rattle.ql_check.proofs.insert.value_rows.Given as goal
 
 -- the rows so far, and those that are left

@@ -1,7 +1,7 @@
 -- One expression more.
 use Rattle.std.proofs.Common.{◌≡◌, ◌<◌, subst, length, get_or}
 use Rattle.ql_rel.specs.Plans as spec
-use Rattle.ql_check.proofs.Turns.{turn_same}
+use Rattle.ql_check_expr.proofs.Turns.{turn_same}
 use Rattle.ql_check.proofs.select.resolve_each.Goals as goal
 
 pub exprs-preserved : goal.exprs-preserved

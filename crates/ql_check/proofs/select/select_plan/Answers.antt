@@ -1,7 +1,7 @@
 -- A refusal of LIMIT or OFFSET.
 use Rattle.std.proofs.Common.{◌≡◌, Ok, subst}
 use Rattle.ql_rel.specs.Plans as spec
-use Rattle.ql_check.proofs.Stops.{third}
+use Rattle.ql_check_expr.proofs.Stops.{third}
 use Rattle.ql_check.proofs.select.select_plan.Goals as goal
 
 pub returns-in_err-limits : goal.returns-in_err-limits

@@ -13,7 +13,7 @@ returns-in-Ok-clause-done g c =
 
 pub returns-clause-done : goal.returns-clause-done
 returns-clause-done g c =
-    rw c.refused_by.ensures (table_refused (Unit {0}) (Unit {0}) c.in_ok-table.table (record { name = c.args.name.now; columns = c.args.columns.now }) (g.R.Rel.schema c.args.rel.now) c.in-Err.fault _ _ c.in_ok-table.ensures (g.met.R.Rel.told_schema c.args.rel.now) c.in-Err.ensures.refused)
+    rw c.fault_of_rel.ensures (table_refused (Unit {0}) (Unit {0}) c.in_ok-table.table (record { name = c.args.name.now; columns = c.args.columns.now }) (g.R.Rel.schema c.args.rel.now) c.in-Err.fault _ _ c.in_ok-table.ensures (g.met.R.Rel.told_schema c.args.rel.now) c.in-Err.ensures.refused)
 
 pub returns-clause-cause : goal.returns-clause-cause
-returns-clause-cause g c = rw c.refused_by.ensures (cause_kept (Unit {0}) (Unit {0}) _ _ c.in-Err.fault _ _ c.in-Err.ensures.cause)
+returns-clause-cause g c = rw c.fault_of_rel.ensures (cause_kept (Unit {0}) (Unit {0}) _ _ c.in-Err.fault _ _ c.in-Err.ensures.cause)

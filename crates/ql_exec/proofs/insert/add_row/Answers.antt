@@ -10,7 +10,7 @@ returns-in-Ok-clause-done g c = change_done {T = ℕ} (inserted c.args.table c.a
 
 pub returns-in-Err-clause-done : goal.returns-in-Err-clause-done
 returns-in-Err-clause-done g c =
-    rw c.refused_by.ensures (change_refused ℕ (Unit {0}) (inserted c.args.table c.args.values.now) (insert_refusal c.args.table c.args.values.now) c.in-Err.fault _ _ c.in-Err.ensures.refused)
+    rw c.fault_of_rel.ensures (change_refused ℕ (Unit {0}) (inserted c.args.table c.args.values.now) (insert_refusal c.args.table c.args.values.now) c.in-Err.fault _ _ c.in-Err.ensures.refused)
 
 pub returns-in-Err-clause-cause : goal.returns-in-Err-clause-cause
-returns-in-Err-clause-cause g c = rw c.refused_by.ensures (cause_kept ℕ (Unit {0}) _ _ c.in-Err.fault _ _ c.in-Err.ensures.cause)
+returns-in-Err-clause-cause g c = rw c.fault_of_rel.ensures (cause_kept ℕ (Unit {0}) _ _ c.in-Err.fault _ _ c.in-Err.ensures.cause)

@@ -31,4 +31,4 @@ returns-in-len1-clause-text g c =
 
 pub returns-in_default-clause-text : goal.returns-in_default-clause-text
 returns-in_default-clause-text g c =
-    rw c.refused.ensures (several_later (out-Select c.args.select.now).sets c.args.plan.now.fields _ (subst (λ (xs : List FromSet). 2 ≤ length xs) c.as_slice.ensures c.in_default.len_at_least))
+    rw c.refusal.ensures (several_later (out-Select c.args.select.now).sets c.args.plan.now.fields _ (subst (λ (xs : List FromSet). 2 ≤ length xs) c.as_slice.ensures c.in_default.len_at_least))

@@ -5,7 +5,7 @@ use Rattle.ql_exec.proofs.select.add_select.Goals as goal
 
 pub returns-then-not-is_row_by_row-clause-text : goal.returns-then-not-is_row_by_row-clause-text
 returns-then-not-is_row_by_row-clause-text g c =
-    rw c.refused.ensures (text_later c.args.with_names c.args.select.now c.args.plan.now _ (sym c.is_row_by_row.ensures ∙ c.if-not-is_row_by_row.true))
+    rw c.refusal.ensures (text_later c.args.with_names c.args.select.now c.args.plan.now _ (sym c.is_row_by_row.ensures ∙ c.if-not-is_row_by_row.true))
 
 pub returns-in_err-add_lines-clause-text : goal.returns-in_err-add_lines-clause-text
 returns-in_err-add_lines-clause-text g c =

@@ -28,4 +28,4 @@ returns-in-Table-clause-text g c =
 
 pub returns-in-Query-clause-text : goal.returns-in-Query-clause-text
 returns-in-Query-clause-text g c =
-    rw c.refused.ensures (query_later c.args.set.now c.in-Query.field-0 c.args.fields.now _ (query_source c.args.set.now c.in-Query.field-0 c.in-Query.is))
+    rw c.refusal.ensures (query_later c.args.set.now c.in-Query.field-0 c.args.fields.now _ (query_source c.args.set.now c.in-Query.field-0 c.in-Query.is))

@@ -1,0 +1,4 @@
+pub mod Groups
+pub mod Gives
+pub mod Names
+pub mod Forms
