@@ -11,6 +11,7 @@ pub mod PlanFits
 pub mod SelectFits
 mod RowFits
 mod ChangeLemmas
+mod OtherLemmas
 mod FormLemmas
 mod NameLemmas
 mod AcceptLemmas

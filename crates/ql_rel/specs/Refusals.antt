@@ -1,5 +1,5 @@
 -- What a relation refuses: the first refusal of each change, and when an answer may come.
-use Rattle.std.specs.Prelude.{◌≡◌, ℕ, ◌<◌, Bool, true, false, nat_lt, List, Option, Some, None, Result, Ok, Err}
+use Rattle.std.specs.Prelude.{◌≡◌, ℕ, ◌+◌, ◌<◌, ◌≤◌, max, Bool, true, false, nat_lt, List, Option, Some, None, Result, Ok, Err}
 use Rattle.std.specs.List.{list_any}
 use Rattle.ql_edge.specs.Cause.{Rose}
 use Rattle.lldb_base.specs.declared.trouble.Trouble.{Trouble}
@@ -94,3 +94,35 @@ IsCausedRel limit told (Err (fault.Trouble t)) before now = IsTroubleCaused limi
 abbrev pub IsCausedOnly : {T : Type 0} → Option ℕ → Option Db → Result T Trouble → ℕ → ℕ → Type 0
 IsCausedOnly limit told (Ok _) before now = now ≡ before
 IsCausedOnly limit told (Err t) before now = IsTroubleCaused limit told t before now
+
+-- by how much `Full` asks for more than there is, at most: the bytes of the longest content as a block, and what stands before the first one
+abbrev pub longest_growth : ℕ
+longest_growth = 65920
+
+-- what `Full` of a change asks for is at most so much over the size that the call leaves
+abbrev pub NeedsAtMost : {T : Type 0} → ℕ → Result T RelFault → Type 0
+NeedsAtMost size (Ok _) = Unit {0}
+NeedsAtMost size (Err fault.RowTooLong) = Unit {0}
+NeedsAtMost size (Err (fault.KeyTooLong _)) = Unit {0}
+NeedsAtMost size (Err fault.IdsSpent) = Unit {0}
+NeedsAtMost size (Err fault.TableLimit) = Unit {0}
+NeedsAtMost size (Err (fault.Trouble trouble.Failed)) = Unit {0}
+NeedsAtMost size (Err (fault.Trouble trouble.NoMemory)) = Unit {0}
+NeedsAtMost size (Err (fault.Trouble (trouble.Full need most))) = need ≤ size + longest_growth
+NeedsAtMost size (Err (fault.Trouble trouble.Damaged)) = Unit {0}
+
+-- what `Full` of the end of a level asks for is at most so much over the size that the call leaves, or over the limit where that is more
+abbrev pub NeedsAtEnd : {T : Type 0} → ℕ → Result T Trouble → Type 0
+NeedsAtEnd size (Ok _) = Unit {0}
+NeedsAtEnd size (Err trouble.Failed) = Unit {0}
+NeedsAtEnd size (Err trouble.NoMemory) = Unit {0}
+NeedsAtEnd size (Err (trouble.Full need most)) = need ≤ max size most + longest_growth
+NeedsAtEnd size (Err trouble.Damaged) = Unit {0}
+
+-- whether a relation is sound after the end of a level: a device that refused may end it, and nothing else
+abbrev pub StaysSound : {T : Type 0} → Result T Trouble → (before now : Bool) → Type 0
+StaysSound (Ok _) before now = now ≡ before
+StaysSound (Err trouble.Failed) before now = Unit {0}
+StaysSound (Err trouble.NoMemory) before now = Unit {0}
+StaysSound (Err (trouble.Full _ _)) before now = now ≡ before
+StaysSound (Err trouble.Damaged) before now = now ≡ before

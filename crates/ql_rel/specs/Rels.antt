@@ -43,7 +43,7 @@ saved_last [] = None
 saved_last (db ∷ saved) = db
 
 -- a relation in two states that differ only in what is shown and warned
-pub record IsSameRel (db_old db_new : Option Db) (saved_old saved_new : List (Option Db)) (schema_old schema_new : Schema) (given_old given_new : ℕ) (ready_old ready_new sound_old sound_new : Bool) (limit_old limit_new : Option ℕ) : Type 0 where
+pub record IsSameRel (db_old db_new : Option Db) (saved_old saved_new : List (Option Db)) (schema_old schema_new : Schema) (given_old given_new : ℕ) (ready_old ready_new sound_old sound_new : Bool) (limit_old limit_new : Option ℕ) (size_old size_new : ℕ) : Type 0 where
   pub db : db_new ≡ db_old
   pub saved : saved_new ≡ saved_old
   pub schema : schema_new ≡ schema_old
@@ -51,3 +51,4 @@ pub record IsSameRel (db_old db_new : Option Db) (saved_old saved_new : List (Op
   pub ready : ready_new ≡ ready_old
   pub sound : sound_new ≡ sound_old
   pub limit : limit_new ≡ limit_old
+  pub size : size_new ≡ size_old

@@ -1,5 +1,8 @@
 //! How large the parts of a database may grow.
 
+/// How many tables a database has at most.
+pub const TABLE_LIMIT: usize = 4096;
+
 /// How many indexes a database has at most.
 pub const INDEX_LIMIT: usize = 4096;
 

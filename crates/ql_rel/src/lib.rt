@@ -6,8 +6,8 @@ mod db;
 mod fault;
 mod fitting;
 mod laws;
-mod limit;
 mod meaning_laws;
+mod members;
 mod plan;
 mod rel;
 mod schema;
@@ -16,14 +16,15 @@ mod select;
 mod text_limit;
 
 pub use bounds::{
-    BRACKET_LIMIT, COLUMN_LIMIT, INDEX_LIMIT, KEY_LIMIT, LAST_ID, ROW_LIMIT, TEXT_LIMIT,
+    BRACKET_LIMIT, COLUMN_LIMIT, INDEX_LIMIT, KEY_LIMIT, LAST_ID, ROW_LIMIT, TABLE_LIMIT,
+    TEXT_LIMIT,
 };
 pub use db::{Db, Row, Rows, Table, Tables};
 pub use fault::RelFault;
 pub use fitting::is_row_of;
 pub use laws::{change_laws, form_laws};
-pub use limit::TABLE_LIMIT;
 pub use meaning_laws::{event_laws, plan_laws};
+pub use members::Members;
 pub use plan::Plan;
 pub use rel::Rel;
 pub use schema::{Index, Indexes, Schema, TableSchema, TableSchemas};

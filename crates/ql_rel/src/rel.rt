@@ -6,7 +6,7 @@ ghost use Rattle.ql_rel.specs.Changes.{inserted, changed, removed, truncated, ta
 ghost use Rattle.ql_rel.specs.Databases.{schema_of, columns_at, name_at};
 ghost use Rattle.ql_rel.specs.Limits.{IsWithin, is_past_table, is_past_added};
 ghost use Rattle.ql_rel.specs.Names.{is_name_taken, is_column_taken};
-ghost use Rattle.ql_rel.specs.Refusals.{insert_refusal, change_refusal, table_refusal, column_refusal, IsRefusedBy, IsCausedRel, IsCausedOnly};
+ghost use Rattle.ql_rel.specs.Refusals.{insert_refusal, change_refusal, table_refusal, column_refusal, IsRefusedBy, IsCausedRel, IsCausedOnly, NeedsAtMost, NeedsAtEnd, StaysSound};
 ghost use Rattle.ql_rel.specs.Rels.{row_after, row_with, GivesRow, given_after, ready_after, saved_last, IsSameRel};
 ghost use Rattle.ql_rel.specs.WellFormed.{Fits, IsMade, IsWellFormed};
 
@@ -41,6 +41,9 @@ pub trait Rel: Shows {
     /// The limit of what lies under the tables, where there is one.
     ghost limit: { Self → Option ℕ };
 
+    /// The size of the bytes under the tables, 0 where there are none.
+    ghost size: { Self → ℕ };
+
     fn schema(&self) -> &Schema
         ensures { result.now ≡ schema self.now };
 
@@ -71,6 +74,7 @@ pub trait Rel: Shows {
         ensures schema { schema self.new ≡ schema self.old }
         ensures ready { is_ready self.new ≡ is_ready self.old }
         ensures limit { limit self.new ≡ limit self.old }
+        ensures size { size self.new ≡ size self.old }
         ensures sound { is_sound self.new ≡ is_sound self.old }
         ensures told { Self.told self.new ≡ Self.told self.old }
         ensures left { Self.left self.new ≡ Self.left self.old }
@@ -94,6 +98,7 @@ pub trait Rel: Shows {
         ensures schema { schema self.new ≡ schema self.old }
         ensures ready { is_ready self.new ≡ is_ready self.old }
         ensures limit { limit self.new ≡ limit self.old }
+        ensures size { size self.new ≡ size self.old }
         ensures sound { is_sound self.new ≡ is_sound self.old }
         ensures told { Self.told self.new ≡ Self.told self.old }
         ensures left { Self.left self.new ≡ Self.left self.old }
@@ -122,6 +127,7 @@ pub trait Rel: Shows {
         ensures told { Self.told self.new ≡ Self.told self.old }
         ensures left { Self.left self.new ≡ Self.left self.old }
         ensures fixed { Self.fixed self.new ≡ Self.fixed self.old }
+        ensures full { NeedsAtMost (size self.new) result }
         ensures cause { IsCausedRel (limit self.old) (db self.old) result
             (Self.faults self.old) (Self.faults self.new) };
 
@@ -145,6 +151,7 @@ pub trait Rel: Shows {
         ensures told { Self.told self.new ≡ Self.told self.old }
         ensures left { Self.left self.new ≡ Self.left self.old }
         ensures fixed { Self.fixed self.new ≡ Self.fixed self.old }
+        ensures full { NeedsAtMost (size self.new) result }
         ensures cause { IsCausedRel (limit self.old) (db self.old) result
             (Self.faults self.old) (Self.faults self.new) };
 
@@ -165,6 +172,7 @@ pub trait Rel: Shows {
         ensures told { Self.told self.new ≡ Self.told self.old }
         ensures left { Self.left self.new ≡ Self.left self.old }
         ensures fixed { Self.fixed self.new ≡ Self.fixed self.old }
+        ensures full { NeedsAtMost (size self.new) result }
         ensures cause { IsCausedRel (limit self.old) (db self.old) result
             (Self.faults self.old) (Self.faults self.new) };
 
@@ -187,6 +195,7 @@ pub trait Rel: Shows {
         ensures told { Self.told self.new ≡ Self.told self.old }
         ensures left { Self.left self.new ≡ Self.left self.old }
         ensures fixed { Self.fixed self.new ≡ Self.fixed self.old }
+        ensures full { NeedsAtMost (size self.new) result }
         ensures cause { IsCausedRel (limit self.old) (db self.old) result
             (Self.faults self.old) (Self.faults self.new) };
 
@@ -205,6 +214,7 @@ pub trait Rel: Shows {
         ensures told { Self.told self.new ≡ Self.told self.old }
         ensures left { Self.left self.new ≡ Self.left self.old }
         ensures fixed { Self.fixed self.new ≡ Self.fixed self.old }
+        ensures full { NeedsAtMost (size self.new) result }
         ensures cause { IsCausedRel (limit self.old) (db self.old) result
             (Self.faults self.old) (Self.faults self.new) };
 
@@ -224,6 +234,7 @@ pub trait Rel: Shows {
         ensures told { Self.told self.new ≡ Self.told self.old }
         ensures left { Self.left self.new ≡ Self.left self.old }
         ensures fixed { Self.fixed self.new ≡ Self.fixed self.old }
+        ensures full { NeedsAtMost (size self.new) result }
         ensures cause { IsCausedRel (limit self.old) (db self.old) result
             (Self.faults self.old) (Self.faults self.new) };
 
@@ -250,6 +261,7 @@ pub trait Rel: Shows {
         ensures told { Self.told self.new ≡ Self.told self.old }
         ensures left { Self.left self.new ≡ Self.left self.old }
         ensures fixed { Self.fixed self.new ≡ Self.fixed self.old }
+        ensures full { NeedsAtMost (size self.new) result }
         ensures cause { IsCausedRel (limit self.old) (db self.old) result
             (Self.faults self.old) (Self.faults self.new) };
 
@@ -273,6 +285,7 @@ pub trait Rel: Shows {
         ensures told { Self.told self.new ≡ Self.told self.old }
         ensures left { Self.left self.new ≡ Self.left self.old }
         ensures fixed { Self.fixed self.new ≡ Self.fixed self.old }
+        ensures full { NeedsAtMost (size self.new) result }
         ensures cause { IsCausedRel (limit self.old) (db self.old) result
             (Self.faults self.old) (Self.faults self.new) };
 
@@ -287,28 +300,35 @@ pub trait Rel: Shows {
         ensures given { given self.new ≡ given self.old }
         ensures ready { is_ready self.new ≡ is_ready self.old }
         ensures limit { limit self.new ≡ limit self.old }
+        ensures size { size self.new ≡ size self.old }
         ensures sound { is_sound self.new ≡ is_sound self.old }
         ensures told { Self.told self.new ≡ Self.told self.old }
         ensures left { Self.left self.new ≡ Self.left self.old }
         ensures fixed { Self.fixed self.new ≡ Self.fixed self.old }
         ensures faults { Self.faults self.new ≡ Self.faults self.old };
 
-    /// Closes a level: what was saved last is let go. After a refusal the levels stand as before.
+    /// Closes a level: what was saved last is let go. The end of the outermost level is stored.
+    ///
+    /// After a refusal as many levels are open as before, and all stands as before while the relation is sound. Where a
+    /// device refused in the outermost end it may not be, and then it is not ready, and no rollback helps.
     fn commit(&mut self) -> Result<(), Trouble>
         requires ready { IsTrue (is_ready self.old) }
         requires level { 0 < length (saved self.old) }
         ensures ended { OnOk result (saved self.new ≡ drop 1 (saved self.old)) }
-        ensures kept { OnErr result (saved self.new ≡ saved self.old) }
-        ensures db { db self.new ≡ db self.old }
+        ensures kept { OnErr result (IsTrue (is_sound self.new) → saved self.new ≡ saved self.old) }
+        ensures depth { OnErr result (length (saved self.new) ≡ length (saved self.old)) }
+        ensures db { OnOk result (db self.new ≡ db self.old) }
+        ensures db_kept { OnErr result (IsTrue (is_sound self.new) → db self.new ≡ db self.old) }
         ensures schema { schema self.new ≡ schema self.old }
         ensures given { given self.new ≡ given self.old }
         ensures ready { OnOk result (is_ready self.new ≡ is_ready self.old) }
         ensures limit { limit self.new ≡ limit self.old }
-        ensures sound { OnOk result (is_sound self.new ≡ is_sound self.old) }
+        ensures sound { StaysSound result (is_sound self.old) (is_sound self.new) }
         ensures inner { 1 < length (saved self.old) → is_sound self.new ≡ is_sound self.old }
         ensures told { Self.told self.new ≡ Self.told self.old }
         ensures left { Self.left self.new ≡ Self.left self.old }
         ensures fixed { Self.fixed self.new ≡ Self.fixed self.old }
+        ensures full { NeedsAtEnd (size self.new) result }
         ensures cause { IsCausedOnly (limit self.old) (db self.old) result
             (Self.faults self.old) (Self.faults self.new) };
 
@@ -340,5 +360,5 @@ pub trait Rel: Shows {
 
     ghost same_rel: { (x y : Self) → Self.same x y → IsSameRel (db x) (db y) (saved x) (saved y)
         (schema x) (schema y) (given x) (given y) (is_ready x) (is_ready y) (is_sound x)
-        (is_sound y) (limit x) (limit y) };
+        (is_sound y) (limit x) (limit y) (size x) (size y) };
 }

@@ -1,5 +1,6 @@
 //! The tables of a database without their rows.
 
+use crate::members::Members;
 use ql_edge::{Items, Name};
 use ql_syntax::{ColumnDefs, Item};
 
@@ -23,7 +24,7 @@ pub struct TableSchema {
 }
 
 /// Tables without their rows by name, in the order of their bytes.
-pub type TableSchemas = Items<TableSchema>;
+pub type TableSchemas = Members<TableSchema>;
 
 /// The tables of a database without their rows, and its indexes.
 #[derive(Drop)]
