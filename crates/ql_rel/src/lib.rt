@@ -2,6 +2,7 @@
 #![tactic(auto)]
 
 mod bounds;
+mod change;
 mod db;
 mod fault;
 mod fitting;
@@ -18,6 +19,7 @@ mod text_limit;
 pub use bounds::{
     BRACKET_LIMIT, COLUMN_LIMIT, INDEX_LIMIT, KEY_LIMIT, LAST_ID, ROW_LIMIT, TEXT_LIMIT,
 };
+pub use change::{Assigned, AssignedList, Target};
 pub use db::{Db, Row, Rows, Table, Tables};
 pub use fault::RelFault;
 pub use fitting::is_row_of;
