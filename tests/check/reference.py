@@ -1,4 +1,4 @@
-"""Checks SELECTs a second time: what a script comes to, as crates/test_check writes it.
+"""Checks statements a second time: what a script comes to, as crates/test_check writes it.
 
 It is written from 'Names and types' in docs/LANGUAGE.md, not from the program. What is said of an expression is its
 kind and the expression with its names resolved, which tests/values evaluates.
@@ -26,7 +26,7 @@ UNTYPED = "untyped"  # integers whose kind is still open
 ONLY_NULL = None
 
 WORDS = {1: "NoTable", 2: "NoColumn", 3: "Ambiguous", 4: "Exists", 5: "Type", 6: "Count", 7: "ConstantRange"}
-WORDS |= {8: "Aggregate", 10: "Later", 20: "Divide", 21: "Range", 22: "NegativeCount"}
+WORDS |= {8: "Aggregate", 9: "Reserved", 10: "Later", 20: "Divide", 21: "Range", 22: "NegativeCount"}
 
 AGGREGATES = ("count", "sum", "avg", "min", "max")
 METADATA = ("__Table", "__Column", "__Index")
@@ -319,12 +319,12 @@ def record_sets(select, schema):
     for each in select.sets:
         if each.table is None or each.table in METADATA:
             raise Refused(10)
-        if each.table not in schema:
+        if each.table not in schema.tables:
             raise Refused(1, each.table)
         name = each.alias or each.table
         if any(other.name == name for other in sets):
             raise Refused(3, name)
-        columns = schema[each.table]
+        columns = schema.tables[each.table]
         sets.append(RecordSet(name, columns, start))
         start += 1 + len(columns)
     if select.join:
@@ -357,8 +357,7 @@ def counted(tree):
 def plan_of(select, schema):
     """The plan of a SELECT, or its first refusal."""
     sets, width = record_sets(select, schema)
-    if select.where is not None and not is_one_of(judge(select.where, Scope(sets)).kind, ["bool"]):
-        raise Refused(5)
+    filtered(select.where, Scope(sets))
     groups = [judge(column, Scope(sets)) for column in select.groups]
     fields = fields_of(select, sets)
     grouped = bool(groups) or any(has_aggregate(expr) for expr, _ in select.fields or [])
@@ -368,6 +367,140 @@ def plan_of(select, schema):
     counted(select.limit)
     counted(select.offset)
     return Plan(fields, grouped, groups, keys)
+
+
+# Statements that change something. Columns are pairs of a name and a kind.
+
+
+@dataclass
+class Schema:
+    tables: dict  # the columns of each table, by its name
+    indexes: dict  # the table of each index, by its name
+
+
+@dataclass
+class Change:
+    """The plan of an INSERT, an UPDATE or a DELETE: the columns by their numbers, their new values, or how many rows."""
+
+    targets: list
+    values: list
+    rows: int = 0
+
+
+def reserved(name):
+    if name.startswith("__"):
+        raise Refused(9, name)
+
+
+def changed(name, schema):
+    """The columns of the table that a statement changes."""
+    if name in METADATA:
+        raise Refused(9, name)
+    if name not in schema.tables:
+        raise Refused(1, name)
+    return schema.tables[name]
+
+
+def new_column(column, taken):
+    reserved(column.name)
+    if column.name in taken:
+        raise Refused(4, column.name)
+    if not column.takes_all():
+        raise Refused(10)
+
+
+def create_table(statement, schema):
+    reserved(statement.name)
+    if statement.quiet and statement.name in schema.tables:
+        return
+    if statement.name in schema.tables or statement.name in schema.indexes:
+        raise Refused(4, statement.name)
+    for i, column in enumerate(statement.columns):
+        new_column(column, [other.name for other in statement.columns[:i]])
+
+
+def drop_table(statement, schema):
+    if statement.quiet and statement.name not in schema.tables and statement.name not in METADATA:
+        return
+    changed(statement.name, schema)
+
+
+def add_column(statement, schema):
+    columns = changed(statement.table, schema)
+    indexes = [name for name, table in schema.indexes.items() if table == statement.table]
+    new_column(statement.column, [name for name, _ in columns] + indexes)
+
+
+def drop_column(statement, schema):
+    columns = changed(statement.table, schema)
+    if statement.name not in [name for name, _ in columns]:
+        raise Refused(2, statement.name)
+    if len(columns) == 1:
+        raise Refused(6)
+
+
+def truncate(statement, schema):
+    changed(statement.table, schema)
+
+
+def for_column(checked, kind):
+    """A value for a column of a kind."""
+    if checked.kind == UNTYPED and kind in RANGES:
+        if checked.literal is not None and not fits(checked.literal, kind):
+            raise Refused(7)
+        return narrowed(checked, kind)
+    if settled(checked).kind not in (kind, ONLY_NULL):
+        raise Refused(5)
+    return checked
+
+
+def insert(statement, schema):
+    columns = changed(statement.table, schema)
+    if statement.names or statement.rows is None:
+        raise Refused(10)
+    for row in statement.rows:
+        values = [judge(expr, Scope([])) for expr in row]
+        if len(values) != len(columns):
+            raise Refused(6)
+        for value, (_, kind) in zip(values, columns):
+            for_column(value, kind)
+    return Change(list(range(len(columns))), [], len(statement.rows))
+
+
+def update(statement, schema):
+    columns = changed(statement.table, schema)
+    scope = Scope([RecordSet(statement.table, columns, 0)])
+    names, targets, values = [name for name, _ in columns], [], []
+    for name, expr in statement.sets:
+        if name not in names:
+            raise Refused(2, name)
+        if names.index(name) in targets:
+            raise Refused(3, name)
+        targets.append(names.index(name))
+        values.append(for_column(judge(expr, scope), columns[targets[-1]][1]))
+    filtered(statement.where, scope)
+    return Change(targets, values)
+
+
+def delete(statement, schema):
+    filtered(statement.where, Scope([RecordSet(statement.table, changed(statement.table, schema), 0)]))
+
+
+def filtered(where, scope):
+    if where is not None and not is_one_of(judge(where, scope).kind, ["bool"]):
+        raise Refused(5)
+
+
+CHANGES = {
+    trees.CreateTable: create_table,
+    trees.DropTable: drop_table,
+    trees.AddColumn: add_column,
+    trees.DropColumn: drop_column,
+    trees.Insert: insert,
+    trees.Update: update,
+    trees.Delete: delete,
+    trees.Truncate: truncate,
+}
 
 
 # What a script comes to
@@ -387,11 +520,21 @@ def plan_line(plan):
     return line
 
 
+def change_line(change):
+    if change is None:
+        return "ok"
+    if change.rows:
+        return "ok INTO " + ", ".join(map(str, change.targets)) + f" ROWS {change.rows}"
+    return "ok SET " + ", ".join(f"{at} = {shown(None, value)}" for at, value in zip(change.targets, change.values))
+
+
 def answer(statement, schema):
-    if not isinstance(statement, trees.Select):
-        return str(Refused(10))
     try:
-        return plan_line(plan_of(statement, schema))
+        if isinstance(statement, trees.Select):
+            return plan_line(plan_of(statement, schema))
+        if type(statement) in CHANGES:
+            return change_line(CHANGES[type(statement)](statement, schema))
+        return str(Refused(10))
     except Refused as refused:
         return str(refused)
 
@@ -402,5 +545,11 @@ def outcome(script):
         statements = trees.statements_of(script)
     except Fault:
         return "no script"
-    schema = {each.name: each.columns for each in statements if isinstance(each, trees.CreateTable)}
-    return " | ".join(answer(each, schema) for each in statements if not isinstance(each, trees.CreateTable))
+    schema = Schema({}, {})
+    while statements and isinstance(statements[0], (trees.CreateTable, trees.CreateIndex)):
+        made = statements.pop(0)
+        if isinstance(made, trees.CreateTable):
+            schema.tables[made.name] = [(column.name, column.kind) for column in made.columns]
+        else:
+            schema.indexes[made.name] = made.table
+    return " | ".join(answer(each, schema) for each in statements)

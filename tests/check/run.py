@@ -1,8 +1,8 @@
 #!/usr/bin/env python3
-"""Runs the program crates/test_check over SELECTs: run.py PROGRAM. Its last line is 'N passed, N failed'.
+"""Runs the program crates/test_check over scripts: run.py PROGRAM. Its last line is 'N passed, N failed'.
 
 The outcomes of table.txt, of the operators with each pair of kinds, and of the pairs of refusals are written by hand or
-follow from lists that are, and reference.py is held against them too; of the random SELECTs reference.py says what they
+follow from lists that are, and reference.py is held against them too; of the random scripts reference.py says what they
 come to. With --reference alone, the program is left out.
 """
 import itertools
@@ -15,14 +15,16 @@ sys.path.insert(0, str(HERE.parent))
 
 import lines
 from check.reference import outcome
-from check.scripts import Selects
+from check.scripts import Changes, Selects
 
 RANDOM = 10_000
+RANDOM_CHANGES = 20_000
 SEED = 5
 
 SCHEMA = (
     "CREATE TABLE t (a int64, b int8, s string, f bool, x blob); "
     "CREATE TABLE u (a uint8, b int8, d string); "
+    "CREATE INDEX ix ON t (a); "
 )
 
 
@@ -187,13 +189,96 @@ def pairs_of_parts():
             yield select_with({first: text, second: other}), refusal
 
 
+# The same of statements that change something: the parts of each in the order in which they are judged, with what may be
+# wrong in each, and what usually stands there
+
+TABLE = {"9 Reserved __Table": "__Table", "1 NoTable nosuch": "nosuch", "1 NoTable __t": "__t"}
+SEES_TABLE = {refusal: text for refusal, text in REFUSED.items() if text != "a"}
+CONDITION = {"10 Later": "NOT NULL"}
+FOR_INT8 = SEES_TABLE | {"7 ConstantRange": "128", "5 Type": '"x"'}
+STATEMENTS = [
+    (
+        "COMMIT; CREATE TABLE {0} ({1} int8 {2}, {3} int8 {4})",
+        ({"9 Reserved __v": "__v", "4 Exists t": "t", "4 Exists ix": "ix"}, "v"),
+        ({"9 Reserved __a": "__a"}, "a"),
+        (CONDITION, ""),
+        ({"9 Reserved __b": "__b", "4 Exists a": "a"}, "b"),
+        ({"10 Later": "DEFAULT nosuch"}, ""),
+    ),
+    ("DROP TABLE {0}", (TABLE, "t")),
+    ("TRUNCATE TABLE {0}", (TABLE, "t")),
+    (
+        "ALTER TABLE {0} ADD {1} int8 {2}",
+        (TABLE, "t"),
+        ({"9 Reserved __z": "__z", "4 Exists a": "a", "4 Exists ix": "ix"}, "z"),
+        (CONDITION, ""),
+    ),
+    ("ALTER TABLE {0} DROP COLUMN {1}", (TABLE, "t"), ({"2 NoColumn nosuch": "nosuch", "2 NoColumn __a": "__a"}, "a")),
+    (
+        "INSERT INTO {0} VALUES ({3}, {1}, {2}), ({6}, {4}, {5})",
+        (TABLE, "u"),
+        (SEES_NOTHING, "1"),
+        ({"6 Count": '"x", 1'}, '"x"'),
+        ({"7 ConstantRange": "256", "5 Type": '"x"'}, "1"),
+        (SEES_NOTHING, "1"),
+        ({"6 Count": '"x", 1'}, '"x"'),
+        ({"7 ConstantRange": "-1", "5 Type": "true"}, "NULL"),
+    ),
+    (
+        "UPDATE {0} SET b = {1}, {2} = {3} WHERE {4}",
+        (TABLE, "t"),
+        (FOR_INT8, "1"),
+        ({"2 NoColumn nosuch": "nosuch", "3 Ambiguous b": "b"}, "a"),
+        (SEES_TABLE | {"5 Type": "b"}, "2"),
+        (SEES_TABLE | {"5 Type": "b"}, "f"),
+    ),
+    ("DELETE FROM {0} WHERE {1}", (TABLE, "t"), (SEES_TABLE | {"5 Type": "1"}, "f")),
+]
+
+
+def changes_with(form, parts, wrong):
+    return form.format(*(wrong.get(number, usual) for number, (_, usual) in enumerate(parts)))
+
+
+def pairs_in_changes():
+    for form, *parts in STATEMENTS:
+        before = "10 Later | " if form.startswith("COMMIT") else ""
+        for first, (refusals, _) in enumerate(parts):
+            for refusal, text in refusals.items():
+                yield changes_with(form, parts, {first: text}), before + refusal
+                for second in range(first + 1, len(parts)):
+                    for other in parts[second][0].values():
+                        yield changes_with(form, parts, {first: text, second: other}), before + refusal
+
+
+LEAST_AND_GREATEST = {f"int{n}": (-(2 ** (n - 1)), 2 ** (n - 1) - 1) for n in (8, 16, 32, 64)}
+LEAST_AND_GREATEST |= {f"uint{n}": (0, 2**n - 1) for n in (8, 16, 32, 64)}
+
+
+def at_the_ends():
+    """Untyped values for a column of each kind: its least and its greatest number, and one past each of them. A number that
+    is no int64 is a uint64 and so of another kind; one over 2^64-1 is none."""
+    for kind, (least, greatest) in LEAST_AND_GREATEST.items():
+        table = f"CREATE TABLE v (k {kind}); "
+        yield f"{table}INSERT INTO v VALUES ({least}), ({greatest})", "ok INTO 0 ROWS 2"
+        yield f"{table}UPDATE v SET k = {least}; UPDATE v SET k = {greatest}", "ok SET 0 = - | ok SET 0 = -"
+        past = "5 Type" if kind == "int64" else "7 ConstantRange"
+        for number in [least - 1, greatest + 1] if kind != "uint64" else [least - 1]:
+            yield f"{table}INSERT INTO v VALUES ({number})", past
+            yield f"{table}UPDATE v SET k = {number}", past
+
+
 def main():
     program = None if sys.argv[1] == "--reference" else sys.argv[1]
-    known = [*table(), *operators(), *clauses(), *pairs(), *pairs_of_parts()]
+    known = [*table(), *operators(), *clauses(), *pairs(), *pairs_of_parts(), *pairs_in_changes(), *at_the_ends()]
     by_hand = [(SCHEMA + script, wanted) for script, wanted in known]
     made = [(script, outcome(script)) for script in Selects(random.Random(SEED)).some(RANDOM)]
     planned = sum(wanted.startswith("ok") for _, wanted in made)
     print(f"{len(by_hand)} scripts by hand; of {RANDOM} random ones {planned} begin with a SELECT that has a plan")
+    changes = [(script, outcome(script)) for script in Changes(random.Random(SEED)).some(RANDOM_CHANGES)]
+    planned = sum(" | ok" in wanted for _, wanted in changes)
+    print(f"of {RANDOM_CHANGES} random changes {planned} have a plan")
+    made += changes
     return lines.run(program, outcome, by_hand, made)
 
 

@@ -293,3 +293,100 @@ class Selects:
             name = self.random.choice(known)
             return self.random.choice([name, name, f"{name} == NULL", f"({name})", f"{name} + 1", f"{name} == {name}"])
         return exprs.text(self.random.choice(KINDS), 2)
+
+
+class Changes:
+    """Random statements that change tables, each over a schema of its own."""
+
+    def __init__(self, random):
+        self.random = random
+
+    def chance(self, of_one):
+        return self.random.random() < of_one
+
+    def some(self, count):
+        return [self.script() for _ in range(count)]
+
+    def script(self):
+        """A schema, a COMMIT, which ends it, and a statement."""
+        pick = self.random.choice
+        self.tables = {
+            name: {column: pick(KINDS) for column in self.random.sample("abcde", self.random.randint(1, 4))}
+            for name in self.random.sample("tuv", self.random.randint(1, 3))
+        }
+        self.indexes = {name: pick([*self.tables]) for name in self.random.sample(["x", "y"], self.random.randint(0, 2))}
+        self.mistakes = pick([0, 0, 0.02, 0.05])
+        made = [f"CREATE TABLE {name} ({self.columns(columns)})" for name, columns in self.tables.items()]
+        made += [f"CREATE INDEX {name} ON {table} (id())" for name, table in self.indexes.items()]
+        statement = pick([self.create, self.drop, self.add, self.drop_column, self.truncate, *3 * [self.insert, self.update, self.delete]])
+        return "; ".join([*made, "COMMIT", statement()])
+
+    def columns(self, columns):
+        return ", ".join(f"{name} {kind}" for name, kind in columns.items())
+
+    def either(self, usual, *others):
+        """Mostly one of the usual ones."""
+        return self.random.choice([*others] if others and self.chance(0.1) else [*usual])
+
+    def table(self):
+        return self.either(self.tables, "nosuch", "__Table", "__t", *self.indexes, "t")
+
+    def new_column(self):
+        condition = self.either([""], " NOT NULL", " a > 0", " DEFAULT 1")
+        return f"{self.either('abcdefgh', '__a', 'x', 't')} {self.random.choice(KINDS)}{condition}"
+
+    def create(self):
+        quiet = self.random.choice(["", "IF NOT EXISTS "])
+        columns = ", ".join(self.new_column() for _ in range(self.random.randint(1, 3)))
+        return f"CREATE TABLE {quiet}{self.either('tuvw', '__w', 'x', 'y')} ({columns})"
+
+    def drop(self):
+        return f"DROP TABLE {self.random.choice(['', 'IF EXISTS '])}{self.table()}"
+
+    def add(self):
+        return f"ALTER TABLE {self.table()} ADD {self.new_column()}"
+
+    def drop_column(self):
+        return f"ALTER TABLE {self.table()} DROP COLUMN {self.random.choice('abcde')}"
+
+    def truncate(self):
+        return f"TRUNCATE TABLE {self.table()}"
+
+    def insert(self):
+        table = self.table()
+        kinds = [*self.tables.get(table, {"a": "int64"}).values()]
+        exprs = Expressions(self.random, self.mistakes, {}, REFUSED)
+        rows = ", ".join(f"({', '.join(self.row(exprs, kinds))})" for _ in range(self.random.randint(1, 3)))
+        return f"INSERT INTO {table} {self.either([''], '(a) ')}{self.either(['VALUES ' + rows], 'SELECT 1')}"
+
+    def row(self, exprs, kinds):
+        values = [self.value(exprs, kind) for kind in kinds]
+        return values if self.chance(0.95) else self.random.choice([values[1:] or values, values + ["1"]])
+
+    def value(self, exprs, kind):
+        """A value for a column of a kind, which may be untyped."""
+        return exprs.text(UNTYPED if kind in INTEGERS and self.chance(0.5) else kind, 2)
+
+    def seen(self, table):
+        """What a row of the table shows, by its kind."""
+        columns = {kind: [] for kind in KINDS}
+        for name, kind in self.tables.get(table, {}).items():
+            columns[kind] += [name, f"{table}.{name}"]
+        columns["int64"] += ["id()", f"id({table})"]
+        return Expressions(self.random, self.mistakes, columns, REFUSED)
+
+    def update(self):
+        table = self.table()
+        exprs, columns = self.seen(table), self.tables.get(table, {"a": "int64"})
+        names = self.random.sample([*columns], self.random.randint(1, len(columns)))
+        if self.chance(0.1):
+            names.append(self.random.choice("abcdefgh"))
+        sets = ", ".join(f"{name} = {self.value(exprs, columns.get(name, 'int64'))}" for name in names)
+        return f"UPDATE {table} {self.random.choice(['', 'SET '])}{sets}{self.where(exprs)}"
+
+    def delete(self):
+        table = self.table()
+        return f"DELETE FROM {table}{self.where(self.seen(table))}"
+
+    def where(self, exprs):
+        return f" WHERE {exprs.text('bool', 2)}" if self.chance(0.6) else ""

@@ -1,4 +1,4 @@
-"""Reads scripts as trees: SELECT and CREATE TABLE whole, of every other statement only where it ends.
+"""Reads scripts as trees: all statements but those of transactions, of which it reads only where they end.
 
 The tokens are those of tests/grammar. A script that does not read raises Fault; its place is not told here.
 """
@@ -115,9 +115,80 @@ class Select:
 
 
 @dataclass
-class CreateTable:
+class ColumnDef:
     name: str
-    columns: list  # pairs of a name and a kind
+    kind: str
+    not_null: bool = False
+    rule: object = None
+    default: object = None
+
+    def takes_all(self):
+        return not self.not_null and self.rule is None and self.default is None
+
+
+@dataclass
+class CreateTable:
+    quiet: bool
+    name: str
+    columns: list
+
+
+@dataclass
+class DropTable:
+    quiet: bool
+    name: str
+
+
+@dataclass
+class AddColumn:
+    table: str
+    column: ColumnDef
+
+
+@dataclass
+class DropColumn:
+    table: str
+    name: str
+
+
+@dataclass
+class CreateIndex:
+    unique: bool
+    quiet: bool
+    name: str
+    table: str
+    item: str | None  # None for the id
+
+
+@dataclass
+class DropIndex:
+    quiet: bool
+    name: str
+
+
+@dataclass
+class Insert:
+    table: str
+    names: list
+    rows: list | None  # None for a SELECT
+
+
+@dataclass
+class Update:
+    table: str
+    sets: list  # pairs of a name and an expression
+    where: object = None
+
+
+@dataclass
+class Delete:
+    table: str
+    where: object = None
+
+
+@dataclass
+class Truncate:
+    table: str
 
 
 @dataclass
@@ -176,20 +247,88 @@ class Reader:
     def statement(self):
         if self.sees("SELECT"):
             return self.select()
-        if self.sees("CREATE") and self.tokens[self.at + 1 : self.at + 2] == [("TABLE", None)]:
-            return self.create_table()
-        while self.at < len(self.tokens) and not self.sees(";"):
-            self.at += 1
-        return Other()
+        word = self.need("BEGIN", "COMMIT", "ROLLBACK", "CREATE", "DROP", "ALTER", "TRUNCATE", "INSERT", "UPDATE", "DELETE").what
+        if word == "BEGIN":
+            self.need("TRANSACTION")
+        if word in ("BEGIN", "COMMIT", "ROLLBACK"):
+            return Other()
+        return getattr(self, word.lower())()
 
-    def create_table(self):
-        self.need("CREATE")
-        self.need("TABLE")
+    def create(self):
+        if self.has("TABLE"):
+            quiet, name = self.quiet("NOT", "EXISTS"), self.name()
+            return CreateTable(quiet, name, self.bracketed(lambda: self.list(self.column, lambda: self.sees("name"))))
+        unique = self.has("UNIQUE")
+        self.need("INDEX")
+        quiet, name = self.quiet("NOT", "EXISTS"), self.name()
+        self.need("ON")
+        return CreateIndex(unique, quiet, name, self.name(), self.bracketed(self.item))
+
+    def quiet(self, *words):
+        if not self.has("IF"):
+            return False
+        for word in words:
+            self.need(word)
+        return True
+
+    def item(self):
         name = self.name()
-        return CreateTable(name, self.bracketed(lambda: self.list(self.column, lambda: self.sees("name"))))
+        if name == "id" and self.sees("("):
+            return self.bracketed(lambda: None)
+        return name
 
     def column(self):
-        return self.name(), KINDS[self.need(*KINDS).what]
+        made = ColumnDef(self.name(), KINDS[self.need(*KINDS).what])
+        if self.has("NOT"):
+            if self.has("NULL"):
+                made.not_null = True
+            else:
+                raise Fault("no script")
+        elif self.begins_expr():
+            made.rule = self.expr()
+        made.default = self.behind("DEFAULT")
+        return made
+
+    def drop(self):
+        table = self.need("TABLE", "INDEX").what == "TABLE"
+        return (DropTable if table else DropIndex)(self.quiet("EXISTS"), self.name())
+
+    def alter(self):
+        self.need("TABLE")
+        table = self.name()
+        if self.need("ADD", "DROP").what == "ADD":
+            return AddColumn(table, self.column())
+        self.need("COLUMN")
+        return DropColumn(table, self.name())
+
+    def truncate(self):
+        self.need("TABLE")
+        return Truncate(self.name())
+
+    def insert(self):
+        self.need("INTO")
+        table, names = self.name(), []
+        if self.sees("("):
+            names = self.bracketed(lambda: self.list(self.name, lambda: self.sees("name")))
+        if self.sees("SELECT"):
+            self.select()
+            return Insert(table, names, None)
+        self.need("VALUES")
+        return Insert(table, names, self.list(lambda: self.bracketed(self.exprs), lambda: self.sees("(")))
+
+    def update(self):
+        table = self.name()
+        self.has("SET")
+        return Update(table, self.list(self.assignment, lambda: self.sees("name")), self.behind("WHERE"))
+
+    def assignment(self):
+        name = self.name()
+        self.need("=")
+        return name, self.expr()
+
+    def delete(self):
+        self.need("FROM")
+        return Delete(self.name(), self.behind("WHERE"))
 
     def select(self):
         made = Select()

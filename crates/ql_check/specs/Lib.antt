@@ -1,4 +1,5 @@
 pub mod Found
 pub mod Outputs
 pub mod Inserts
+pub mod Changes
 pub mod NameSets

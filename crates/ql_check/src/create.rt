@@ -2,10 +2,11 @@
 
 ghost use Rattle.std.specs.Prelude.{◌≡◌, ℕ, List, [], ◌∷◌, ◌++◌, OnOk};
 ghost use Rattle.ql_rel.specs.CreatePlans as spec;
+ghost use Rattle.ql_rel.specs.TablePlans.{create_plan};
 ghost use Rattle.ql_check_expr.specs.Gives.{Gives};
 ghost use Rattle.ql_check.specs.NameSets.{HoldsNames};
 
-use crate::names::{free_column, free_table, new_name};
+use crate::names::{free_column, free_table, is_table, new_name};
 use ql_check_expr::CheckFault;
 use ql_edge::{Name, Names0, Numbers};
 use ql_rel::{Plan, Schema};
@@ -43,7 +44,7 @@ pub(crate) fn takes_all(column: &ColumnDef) -> bool
 }
 
 /// NOT NULL, rules and defaults are not built yet.
-fn without_conditions(alloc: Global, column: &ColumnDef) -> Result<(), CheckFault>
+pub(crate) fn without_conditions(alloc: Global, column: &ColumnDef) -> Result<(), CheckFault>
     ensures { Gives (spec.without_conditions column.now) result }
 {
     if !takes_all(column) {
@@ -89,8 +90,8 @@ fn some_columns(alloc: Global, columns: &[ColumnDef]) -> Result<(), CheckFault>
     new_columns(alloc, columns)
 }
 
-/// The plan of CREATE TABLE.
-pub(crate) fn create_table_plan(
+/// The plan of CREATE TABLE of a table that is to be made.
+fn create_table_plan(
     alloc: Global,
     schema: &Schema,
     name: &Name,
@@ -102,4 +103,21 @@ pub(crate) fn create_table_plan(
     free_table(alloc, name.as_slice(), schema)?;
     some_columns(alloc, columns.as_slice())?;
     Ok(no_parts(alloc))
+}
+
+/// The plan of CREATE TABLE.
+pub(crate) fn create_plan(
+    alloc: Global,
+    schema: &Schema,
+    quiet: bool,
+    name: &Name,
+    columns: &ColumnDefs,
+) -> Result<Plan, CheckFault>
+    ensures { Gives (create_plan schema.now quiet name.now columns.now) result }
+{
+    if quiet && is_table(name.as_slice(), &schema.tables) {
+        new_name(alloc, name.as_slice())?;
+        return Ok(no_parts(alloc));
+    }
+    create_table_plan(alloc, schema, name, columns)
 }

@@ -58,7 +58,7 @@ fn column_slot(alloc: Global, set: &[u8], column: &ColumnDef) -> Result<Slot, No
 }
 
 /// The places of a record set behind others.
-fn add_slots(
+pub(crate) fn add_slots(
     alloc: Global,
     before: Slots,
     set: &[u8],

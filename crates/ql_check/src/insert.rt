@@ -13,8 +13,8 @@ ghost use Rattle.ql_check_expr.specs.Gives.{Gives};
 ghost use Rattle.ql_check.specs.Inserts.{table_plan};
 
 use crate::create::{no_parts, takes_all};
-use crate::from::{is_metadata, table_named};
 use crate::select::row_scope;
+use crate::tables::known_table;
 use ql_check_expr::{CheckFault, check_expr, meet_type, require_type};
 use ql_edge::{Name, Names, NoMemory, Numbers};
 use ql_rel::{Index, Indexes, Plan, Schema};
@@ -22,7 +22,7 @@ use ql_syntax::{
     Checked, CheckedList, ColumnDef, ColumnDefs, ExprRows, Exprs, RowSource, Scope, Slots, Typed,
     TypedRows, Typeds, Typing,
 };
-use ql_value::{COUNT, Kind, LATER, NO_TABLE, RESERVED, Refusal};
+use ql_value::{COUNT, Kind, LATER, Refusal};
 use std::alloc::Global;
 
 /// The type, where its kind is this one.
@@ -42,7 +42,7 @@ fn among_kind(kind: Kind, typing: Typing) -> Typing
 }
 
 /// A value for a column of a kind.
-fn for_kind(alloc: Global, kind: Kind, checked: Checked) -> Result<Typed, CheckFault>
+pub(crate) fn for_kind(alloc: Global, kind: Kind, checked: Checked) -> Result<Typed, CheckFault>
     ensures { Gives (spec.for_kind kind checked) result }
 {
     let met = meet_type(alloc, Typing::OfKind(kind), checked)?;
@@ -227,12 +227,6 @@ pub(crate) fn insert_plan(
 ) -> Result<Plan, CheckFault>
     ensures { Gives (spec.insert_plan schema.now name.now names.now source.now) result }
 {
-    let bytes = name.as_slice();
-    if is_metadata(bytes) {
-        return Err(CheckFault::Refused(Refusal::with_name(alloc, RESERVED, bytes)?));
-    }
-    match table_named(bytes, &schema.tables) {
-        Some(table) => table_plan(alloc, schema, table.columns.as_slice(), names, source),
-        None => Err(CheckFault::Refused(Refusal::with_name(alloc, NO_TABLE, bytes)?)),
-    }
+    let table = known_table(alloc, name.as_slice(), schema)?;
+    table_plan(alloc, schema, table.columns.as_slice(), names, source)
 }

@@ -1,6 +1,7 @@
 //! The plan of a statement, or its first refusal.
 #![tactic(auto)]
 
+mod change;
 mod create;
 mod fields;
 mod from;
@@ -8,6 +9,7 @@ mod insert;
 mod names;
 mod select;
 mod statement;
+mod tables;
 
 pub use ql_check_expr::CheckFault;
 pub use ql_rel::Plan;

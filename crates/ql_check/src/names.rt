@@ -35,7 +35,7 @@ pub(crate) fn new_name(alloc: Global, name: &[u8]) -> Result<(), CheckFault>
 }
 
 /// Whether a table has the name.
-fn is_table(name: &[u8], tables: &TableSchemas) -> bool
+pub(crate) fn is_table(name: &[u8], tables: &TableSchemas) -> bool
     ensures { result ≡ spec.has_name name.now (spec.table_names tables.now) }
 {
     'tables: for table in tables.as_slice() {

@@ -55,7 +55,7 @@ fn resolve_among(
 }
 
 /// The same, where it stands.
-fn resolve_if(
+pub(crate) fn resolve_if(
     alloc: Global,
     group: Group,
     scope: &Scope,

@@ -1,5 +1,5 @@
 -- What a statement does, by the change that it made or by the text that it added.
-use Rattle.std.proofs.Common.{◌≡◌, ℕ, Bool, true, false, ◌<◌, List, [], Option, Some, None, IfSome, Result, Ok, Err, refl, sym, ap, subst, ◌∙◌, append-nil}
+use Rattle.std.proofs.Common.{◌≡◌, ℕ, Bool, false, ◌<◌, List, [], Option, Some, None, IfSome, Result, Ok, Err, refl, sym, ap, subst, ◌∙◌, append-nil}
 use Rattle.std.specs.Prelude.{IsOk}
 use Rattle.ql_syntax.specs.declared.statement.ColumnDef.{ColumnDef}
 use Rattle.ql_syntax.specs.declared.statement.RowSource.{RowSource}
@@ -9,7 +9,7 @@ use Rattle.ql_syntax.specs.declared.syntax.Select.{Select}
 use Rattle.ql_rel.specs.declared.db.Db.{Db}
 use Rattle.ql_rel.specs.declared.plan.Plan.{Plan}
 use Rattle.ql_rel.specs.declared.schema.Schema.{Schema}
-use Rattle.ql_syntax.specs.Answers.{Answer, then_with}
+use Rattle.ql_syntax.specs.Answers.{Answer, refused, then_with}
 use Rattle.ql_rel.specs.CreatePlans.{create_table_plan}
 use Rattle.ql_rel.specs.Plans.{select_plan}
 use Rattle.ql_rel.specs.SelectRows.{select_text}
@@ -47,15 +47,6 @@ texts_do text r (Some d) now before new e c = subst (λ (z : Option Db). Does (t
 ok_is : (a : Answer Plan) (p : Plan) → a ≡ Ok p → IsOk a
 ok_is a p e = rw e refl
 
--- CREATE TABLE with a plan is written without IF NOT EXISTS
-pub plan_there : (quiet : Bool) (schema : Schema) (name : List ℕ) (columns : List ColumnDef) (p : Plan) → statement_plan schema (s.CreateTable quiet name columns) ≡ Ok p → IsOk (create_table_plan schema name columns)
-plan_there true schema name columns p e = absurd (cc)
-plan_there false schema name columns p e = ok_is (create_table_plan schema name columns) p e
-
-pub read_there : (quiet : Bool) (schema : Schema) (name : List ℕ) (columns : List ColumnDef) (p : Plan) → statement_plan schema (s.CreateTable quiet name columns) ≡ Ok p → IsReadBack (s.CreateTable quiet name columns) → IsReadBack (s.CreateTable false name columns)
-read_there true schema name columns p e r = absurd (cc)
-read_there false schema name columns p e r = r
-
 -- what the parts of a statement with a plan need: a SELECT its plan
 pub query_planned : (schema : Schema) (statement : Statement) (q select : Select) (p : Plan) → statement ≡ s.Query q → select ≡ q → statement_plan schema statement ≡ Ok p → select_plan schema select ≡ Ok p
 query_planned schema statement q select p i e h =
@@ -63,14 +54,14 @@ query_planned schema statement q select p i e h =
     subst (λ (z : Select). select_plan schema z ≡ Ok p) (sym e) here
 
 -- a CREATE TABLE a level, its plan, and that it is read back
-pub create_level : (statement : Statement) (quiet : Bool) (name : List ℕ) (columns : List ColumnDef) (levels : ℕ) → statement ≡ s.CreateTable quiet name columns → IsDeepEnough statement levels → 0 < levels
-create_level statement quiet name columns levels i h = subst (λ (z : Statement). IsDeepEnough z levels) i h
+pub create_level : (statement : Statement) (name : List ℕ) (columns : List ColumnDef) (levels : ℕ) → statement ≡ s.CreateTable false name columns → IsDeepEnough statement levels → 0 < levels
+create_level statement name columns levels i h = subst (λ (z : Statement). IsDeepEnough z levels) i h
 
-pub create_planned : (schema : Schema) (statement : Statement) (quiet : Bool) (name : List ℕ) (columns : List ColumnDef) (p : Plan) → statement ≡ s.CreateTable quiet name columns → statement_plan schema statement ≡ Ok p → IsOk (create_table_plan schema name columns)
-create_planned schema statement quiet name columns p i h = plan_there quiet schema name columns p (subst (λ (z : Statement). statement_plan schema z ≡ Ok p) i h)
+pub create_planned : (schema : Schema) (statement : Statement) (name : List ℕ) (columns : List ColumnDef) (p : Plan) → statement ≡ s.CreateTable false name columns → statement_plan schema statement ≡ Ok p → IsOk (create_table_plan schema name columns)
+create_planned schema statement name columns p i h = ok_is (create_table_plan schema name columns) p (subst (λ (z : Statement). statement_plan schema z ≡ Ok p) i h)
 
-pub create_read : (schema : Schema) (statement : Statement) (quiet : Bool) (name : List ℕ) (columns : List ColumnDef) (p : Plan) → statement ≡ s.CreateTable quiet name columns → statement_plan schema statement ≡ Ok p → IsReadBack statement → IsReadBack (s.CreateTable false name columns)
-create_read schema statement quiet name columns p i h r = read_there quiet schema name columns p (subst (λ (z : Statement). statement_plan schema z ≡ Ok p) i h) (subst IsReadBack i r)
+pub create_read : (statement : Statement) (name : List ℕ) (columns : List ColumnDef) → statement ≡ s.CreateTable false name columns → IsReadBack statement → IsReadBack (s.CreateTable false name columns)
+create_read statement name columns i r = subst IsReadBack i r
 
 -- an INSERT a level, and what its plan says
 pub insert_level : (statement : Statement) (name : List ℕ) (names : List (List ℕ)) (rows_of : RowSource) (levels : ℕ) → statement ≡ s.Insert name names rows_of → IsDeepEnough statement levels → 0 < levels
@@ -86,9 +77,9 @@ query_does with_names statement q select p r o now before new i e n h =
     subst (λ (z : Statement). IfSome o (λ d. Does (carried with_names z p d) r before new now)) (sym (i ∙ ap s.Query (sym e)))
     (texts_do (λ d. select_text with_names d select p) r o now before new n h)
 
-pub create_does : {T : Type 0} (with_names : Bool) (statement : Statement) (quiet : Bool) (name : List ℕ) (columns : List ColumnDef) (p : Plan) (r : Result T ExecFault) (o now : Option Db) (out : List ℕ) → statement ≡ s.CreateTable quiet name columns
+pub create_does : {T : Type 0} (with_names : Bool) (statement : Statement) (name : List ℕ) (columns : List ColumnDef) (p : Plan) (r : Result T ExecFault) (o now : Option Db) (out : List ℕ) → statement ≡ s.CreateTable false name columns
     → IfSome o (λ d. Changes (table_added (record { name = name; columns = columns }) d) r now) → IfSome o (λ d. Does (carried with_names statement p d) r out out now)
-create_does with_names statement quiet name columns p r o now out i h =
+create_does with_names statement name columns p r o now out i h =
     subst (λ (z : Statement). IfSome o (λ d. Does (carried with_names z p d) r out out now)) (sym i)
     (changes_do (λ d. table_added (record { name = name; columns = columns }) d) r o now out h)
 
@@ -98,10 +89,16 @@ insert_does with_names statement name names rows_of p r o now out i h =
     subst (λ (z : Statement). IfSome o (λ d. Does (carried with_names z p d) r out out now)) (sym i)
     (changes_do (λ d. inserts name p.rows d) r o now out h)
 
--- no other statement has a plan
-pub others_planless : (schema : Schema) (statement : Statement) (p : Plan) → statement_plan schema statement ≡ Ok p → ((q : Select) → statement ≡ s.Query q → ⊥) → ((quiet : Bool) (name : List ℕ) (columns : List ColumnDef) → statement ≡ s.CreateTable quiet name columns → ⊥)
-    → ((name : List ℕ) (names : List (List ℕ)) (rows_of : RowSource) → statement ≡ s.Insert name names rows_of → ⊥) → ⊥
-others_planless schema (s.Query q) p e no_query no_create no_insert = no_query q refl
-others_planless schema (s.CreateTable quiet name columns) p e no_query no_create no_insert = no_create quiet name columns refl
-others_planless schema (s.Insert name names rows_of) p e no_query no_create no_insert = no_insert name names rows_of refl
-others_planless schema _ p e no_query no_create no_insert = cc
+-- every other statement with a plan is not built yet
+later : (with_names : Bool) (statement : Statement) (p : Plan) (d : Db) → ((q : Select) → statement ≡ s.Query q → ⊥) → ((name : List ℕ) (columns : List ColumnDef) → statement ≡ s.CreateTable false name columns → ⊥)
+    → ((name : List ℕ) (names : List (List ℕ)) (rows_of : RowSource) → statement ≡ s.Insert name names rows_of → ⊥) → carried with_names statement p d ≡ refused 10
+later with_names (s.Query q) p d no_query no_create no_insert = absurd (no_query q refl)
+later with_names (s.CreateTable false name columns) p d no_query no_create no_insert = absurd (no_create name columns refl)
+later with_names (s.Insert name names rows_of) p d no_query no_create no_insert = absurd (no_insert name names rows_of refl)
+later with_names _ p d no_query no_create no_insert = refl
+
+pub others_do : (T : Type 0) (with_names : Bool) (statement : Statement) (p : Plan) (f : ExecFault) (o now : Option Db) (before new : List ℕ) → f ≡ fault.Refused (record { number = 10; name = [] }) → ((q : Select) → statement ≡ s.Query q → ⊥) → ((name : List ℕ) (columns : List ColumnDef) → statement ≡ s.CreateTable false name columns → ⊥)
+    → ((name : List ℕ) (names : List (List ℕ)) (rows_of : RowSource) → statement ≡ s.Insert name names rows_of → ⊥) → IfSome o (λ d. Does {T = T} (carried with_names statement p d) (Err f) before new now)
+others_do T with_names statement p f None now before new i no_query no_create no_insert = tt
+others_do T with_names statement p f (Some d) now before new i no_query no_create no_insert =
+    subst (λ (z : ExecFault). Does {T = T} (carried with_names statement p d) (Err z) before new now) (sym i) (later with_names statement p d no_query no_create no_insert)

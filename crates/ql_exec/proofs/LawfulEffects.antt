@@ -41,10 +41,9 @@ silent_is : (effect : Answer Db) (text : List ℕ) (after : Db) → then_with ef
 silent_is (Ok d) text after e = ap Ok (second [] text d after e)
 silent_is (Err r) text after e = absurd (cc)
 
-create_keeps : (laws : FormLaws) (quiet : Bool) (name : List ℕ) (columns : List ColumnDef) (p : Plan) (db after : Db) (text : List ℕ) → IsLawful db → IsReadBack (s.CreateTable quiet name columns) → statement_plan (schema_of db) (s.CreateTable quiet name columns) ≡ Ok p
+create_keeps : (laws : FormLaws) (name : List ℕ) (columns : List ColumnDef) (p : Plan) (db after : Db) (text : List ℕ) → IsLawful db → IsReadBack (s.CreateTable false name columns) → statement_plan (schema_of db) (s.CreateTable false name columns) ≡ Ok p
     → then_with (table_added (record { name = name; columns = columns }) db) silent ≡ Ok (text, after) → IsLawful after
-create_keeps laws true name columns p db after text l r e c = absurd (cc)
-create_keeps laws false name columns p db after text l r e c =
+create_keeps laws name columns p db after text l r e c =
     let t : TableSchema = record { name = name; columns = columns } in
     let done = made_if (is_past_table t (schema_of db)) (table_created t db) after (silent_is (table_added t db) text after c) in
     subst IsLawful done.1 (create_lawful laws t db l (has_plan t (schema_of db) p e) (reads_itself (schema_of db) name columns p e r) done.0)
@@ -64,7 +63,7 @@ query_keeps (Err r) db after shown l e = absurd (cc)
 carried_lawful : (laws : FormLaws) (with_names : Bool) (statement : Statement) (p : Plan) (db after : Db) (text : List ℕ) → IsLawful db → IsReadBack statement → statement_plan (schema_of db) statement ≡ Ok p
     → carried with_names statement p db ≡ Ok (text, after) → IsLawful after
 carried_lawful laws with_names (s.Query select) p db after text l r e c = query_keeps (select_text with_names db select p) db after text l c
-carried_lawful laws with_names (s.CreateTable quiet name columns) p db after text l r e c = create_keeps laws quiet name columns p db after text l r e c
+carried_lawful laws with_names (s.CreateTable false name columns) p db after text l r e c = create_keeps laws name columns p db after text l r e c
 carried_lawful laws with_names (s.Insert name names rows_of) p db after text l r e c = insert_keeps laws name names rows_of p db after text l e c
 carried_lawful laws with_names _ p db after text l r e c = absurd (cc)
 

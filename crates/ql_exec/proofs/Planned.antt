@@ -31,7 +31,7 @@ use Rattle.ql_rel.specs.InsertPlans.{takes_rows, without_named, without_checks, 
 use Rattle.ql_rel.specs.InsertTypes.{RowsTyped}
 use Rattle.ql_rel.specs.Limits.{IsWithin}
 use Rattle.ql_rel.specs.NewNames.{table_there, known_table, place_named}
-use Rattle.ql_rel.specs.PlanTypes.{slot_types, types_if, AreTyped, PlanTyped}
+use Rattle.ql_rel.specs.PlanTypes.{slot_types, types_if, AreTyped, SelectTyped}
 use Rattle.ql_rel.specs.Plans.{table_named, is_metadata, set_name, column_slots, add_table, add_named, add_source, add_set, add_sets, select_plan}
 use Rattle.ql_rel.specs.SelectRows.{is_row_by_row}
 use Rattle.ql_rel.proofs.Fits.{then_ok, same_ok}
@@ -123,7 +123,7 @@ sets_there schema select p e = sets_if schema select p (add_sets schema [] (out-
 
 fields_typed : (schema : Schema) (select : Select) (p : Plan) → select_plan schema select ≡ Ok p → IsTrue (is_row_by_row (out-Select select).distinct p) → AreTyped (type_of (types_if (add_sets schema [] (out-Select select).sets))) p.fields
 fields_typed schema select p e h =
-    let all : PlanTyped (types_if (add_sets schema [] (out-Select select).sets)) p = select_typed schema select p e in
+    let all : SelectTyped (types_if (add_sets schema [] (out-Select select).sets)) p = select_typed schema select p e in
     all.fields (not_grouped (out-Select select).distinct p h)
 
 -- without a record set the fields see nothing

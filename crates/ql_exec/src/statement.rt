@@ -20,7 +20,7 @@ use ql_value::LATER;
 use std::alloc::Global;
 
 /// Carries out a statement that has a plan: its text is added behind what is there, where the truth says so with the
-/// names of its fields. After a refusal the text is as before.
+/// names of its fields. After a refusal the text is as before. What is not built yet is refused.
 pub fn carry<R: Rel>(
     alloc: Global,
     rel: &mut R,
@@ -44,7 +44,11 @@ pub fn carry<R: Rel>(
 {
     match statement {
         Statement::Query(select) => add_select(alloc, rel, with_names, select.get(), plan, out),
-        Statement::CreateTable { table, columns, .. } => create_table(alloc, rel, table, columns),
+        Statement::CreateTable {
+            quiet: false,
+            table,
+            columns,
+        } => create_table(alloc, rel, table, columns),
         Statement::Insert { table, .. } => insert_rows(alloc, rel, table, plan),
         _ => Err(refusal(alloc, LATER)),
     }

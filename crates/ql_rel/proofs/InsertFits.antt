@@ -30,14 +30,14 @@ no_slots = record { seen = tt; fields = tt }
 abbrev Seen : Checked → Type 0
 Seen c = Fits false [] c
 
-kind_typed : (kind : Kind) (c : Checked) (tree : Typed) → Seen c → for_kind kind c ≡ Ok tree → IsTyped (among (same_kind kind) (type_of [] tree))
-kind_typed kind c tree f a =
+pub kind_typed : (row : List Typing) (kind : Kind) (c : Checked) (tree : Typed) → Fits false row c → for_kind kind c ≡ Ok tree → IsTyped (among (same_kind kind) (type_of row tree))
+kind_typed row kind c tree f a =
     let m = then_ok (meet_type (OfKind kind) c) (λ met. then_with (require_type (among (same_kind kind) met.typing)) (λ _. Ok met.tree)) tree a in
     let r = then_ok (require_type (among (same_kind kind) m.0.typing)) (λ _. Ok m.0.tree) tree m.2 in
-    let g = meet_fits false [] (OfKind kind) c m.0 f m.1 in
+    let g = meet_fits false row (OfKind kind) c m.0 f m.1 in
     let typed = ruled_ok (among (same_kind kind) m.0.typing) r.0 r.1 in
-    let is : type_of [] m.0.tree ≡ m.0.typing = sym (row_type [] m.0.tree) ∙ g.is in
-    subst (λ (e : Typed). IsTyped (among (same_kind kind) (type_of [] e))) (same_ok m.0.tree tree r.2)
+    let is : type_of row m.0.tree ≡ m.0.typing = sym (row_type row m.0.tree) ∙ g.is in
+    subst (λ (e : Typed). IsTyped (among (same_kind kind) (type_of row e))) (same_ok m.0.tree tree r.2)
     (subst (λ (u : Typing). IsTyped (among (same_kind kind) u)) (sym is) typed.0)
 
 columns_typed : (columns : List ColumnDef) (parts : List Checked) (row : List Typed) → length parts ≡ length columns → AllByRecursion Seen parts → for_columns columns parts ≡ Ok row → RowTyped columns row
@@ -47,7 +47,7 @@ columns_typed (column ∷ columns) [] row n h a = absurd (omega arith)
 columns_typed (column ∷ columns) (c ∷ parts) row n h a =
     let t = then_ok (for_kind column.kind c) (λ tree. then_with (for_columns columns parts) (λ trees. Ok (tree ∷ trees))) row a in
     let r = then_ok (for_columns columns parts) (λ trees. Ok (t.0 ∷ trees)) row t.2 in
-    subst (RowTyped (column ∷ columns)) (same_ok (t.0 ∷ r.0) row r.2) (kind_typed column.kind c t.0 h.0 t.1, columns_typed columns parts r.0 (omega arith) h.1 r.1)
+    subst (RowTyped (column ∷ columns)) (same_ok (t.0 ∷ r.0) row r.2) (kind_typed [] column.kind c t.0 h.0 t.1, columns_typed columns parts r.0 (omega arith) h.1 r.1)
 
 same_length : (m n : ℕ) → (m == n) ≡ true → m ≡ n
 same_length m n h = grind (arith, nat_tests)

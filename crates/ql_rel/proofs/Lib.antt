@@ -22,6 +22,7 @@ mod TextLemmas
 mod EventLemmas
 mod StatementExamples
 pub mod InsertFits
+pub mod ChangeFits
 pub mod MadeLemmas
 pub mod CreateLemmas
 pub mod Gathered

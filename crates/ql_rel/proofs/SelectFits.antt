@@ -23,7 +23,7 @@ use Rattle.ql_rel.specs.declared.schema.TableSchema.{TableSchema}
 use Rattle.ql_syntax.specs.Answers.{then_with, refused, refused_at}
 use Rattle.ql_syntax.specs.Aggregates.{has_aggregate}
 use Rattle.ql_rel.specs.Plans.{table_named, is_metadata, column_slots, set_slots, is_taken, set_name, add_table, add_source, add_set, add_sets, without_join, row_scope, resolve_if, resolve_each, star_field, star_fields, are_several, star, result_fields, any_field_aggregate, field_slots, key_scope, is_some_list, row_conditions, source_of, keyed_output, output_of, limits_of, plan_of, plan_behind, select_plan}
-use Rattle.ql_rel.specs.PlanTypes.{slot_types, types_if, row_types, AreTyped, PlanTyped}
+use Rattle.ql_rel.specs.PlanTypes.{slot_types, types_if, AreTyped, SelectTyped}
 use Rattle.ql_syntax.specs.GroupTyping.{type_in_group}
 use Rattle.ql_syntax.proofs.TypedBy.{by_place}
 use Rattle.ql_rel.proofs.Fits.{then_ok, same_ok}
@@ -33,7 +33,7 @@ use Rattle.ql_syntax.proofs.NoAggregates.{same_types}
 use Rattle.ql_rel.proofs.PlanFits.{tested_if_type, resolved_types, FieldsFit, fields_fit}
 
 -- the values at each place have a type
-abbrev AllTyped : List Slot → Type 0
+abbrev pub AllTyped : List Slot → Type 0
 AllTyped [] = Unit {0}
 AllTyped (x ∷ slots) = IsTyped x.typing × AllTyped slots
 
@@ -44,6 +44,9 @@ both_typed (x ∷ a) b p q = (p.0, both_typed a b p.1 q)
 columns_typed : (set : List ℕ) (columns : List ColumnDef) → AllTyped (column_slots set columns)
 columns_typed set [] = tt
 columns_typed set (c ∷ columns) = (tt, columns_typed set columns)
+
+pub set_typed : (set : List ℕ) (columns : List ColumnDef) → AllTyped (set_slots set columns)
+set_typed set columns = (tt, columns_typed set columns)
 
 table_typed : (slots more : List Slot) (set name : List ℕ) (table : Option TableSchema) → AllTyped slots → add_table slots set name table ≡ Ok more → AllTyped more
 table_typed slots more set name None h a = absurd (cc)
@@ -86,7 +89,7 @@ stand before (x ∷ slots) after h =
       subst (λ n. Stand (before ++ (x.typing ∷ rest)) n slots) (one_longer before x.typing) (subst (λ ts. Stand ts (length (before ++ x.typing ∷ [])) slots) (append_assoc before (x.typing ∷ []) rest) next),
     )
 
-row_stands : (slots : List Slot) → AllTyped slots → Stands (slot_types slots) (row_scope slots)
+pub row_stands : (slots : List Slot) → AllTyped slots → Stands (slot_types slots) (row_scope slots)
 row_stands slots h = record { seen = subst (λ ts. Stand ts 0 slots) (append-nil (slot_types slots)) (stand [] slots [] h); fields = tt }
 
 none_stand : Stands [] (row_scope [])
@@ -232,7 +235,7 @@ limits_fit select l a =
 
 whole_fits : (slots : List Slot) (x : Source) (o : Output) (l : Limits)
     → IfSome x.filter (λ e. IsTyped (among is_truth (type_of (slot_types slots) e))) → AreTyped (type_of (slot_types slots)) x.groups
-    → OutputFits (slot_types slots) (is_some_list x.groups) o → LimitsFit l → PlanTyped (slot_types slots) (plan_of x.filter x.groups o l)
+    → OutputFits (slot_types slots) (is_some_list x.groups) o → LimitsFit l → SelectTyped (slot_types slots) (plan_of x.filter x.groups o l)
 whole_fits slots x o l filter groups f g = record {
   filter = filter;
   groups = groups;
@@ -243,15 +246,15 @@ whole_fits slots x o l filter groups f g = record {
   offset = g.offset;
 }
 
-behind_source : (schema : Schema) (select : Select) (p : Plan) (x : Source) → SourceFits schema select x → plan_behind select x ≡ Ok p → PlanTyped (types_if (add_sets schema [] (out-Select select).sets)) p
+behind_source : (schema : Schema) (select : Select) (p : Plan) (x : Source) → SourceFits schema select x → plan_behind select x ≡ Ok p → SelectTyped (types_if (add_sets schema [] (out-Select select).sets)) p
 behind_source schema select p x f a =
     let y = then_ok (output_of x.row (is_some_list x.groups) select) (λ output. then_with (limits_of select) (λ limits. Ok (plan_of x.filter x.groups output limits))) p a in
     let z = then_ok (limits_of select) (λ limits. Ok (plan_of x.filter x.groups y.0 limits)) p y.2 in
     let o = output_fits f.slots (is_some_list x.groups) select y.0 f.typed (subst (λ r. output_of r (is_some_list x.groups) select ≡ Ok y.0) (sym f.row) y.1) in
     let whole = whole_fits f.slots x y.0 z.0 f.filter f.groups o (limits_fit select z.0 z.1) in
-    subst (λ r. PlanTyped (types_if r) p) (sym f.sets) (subst (PlanTyped (slot_types f.slots)) (same_ok (plan_of x.filter x.groups y.0 z.0) p z.2) whole)
+    subst (λ r. SelectTyped (types_if r) p) (sym f.sets) (subst (SelectTyped (slot_types f.slots)) (same_ok (plan_of x.filter x.groups y.0 z.0) p z.2) whole)
 
-pub select_typed : (schema : Schema) (select : Select) (p : Plan) → select_plan schema select ≡ Ok p → PlanTyped (types_if (add_sets schema [] (out-Select select).sets)) p
+pub select_typed : (schema : Schema) (select : Select) (p : Plan) → select_plan schema select ≡ Ok p → SelectTyped (types_if (add_sets schema [] (out-Select select).sets)) p
 select_typed schema select p a =
     let x = then_ok (source_of schema select) (plan_behind select) p a in
     behind_source schema select p x.0 (source_fits schema select x.0 x.1) x.2

@@ -6,6 +6,7 @@ use Rattle.ql_value.specs.declared.value.Kind.TheVariants as k
 use Rattle.ql_value.specs.declared.value.Value.{Value}
 use Rattle.ql_value.specs.declared.value.Value.TheVariants as v
 use Rattle.ql_syntax.specs.declared.statement.ColumnDef.{ColumnDef}
+use Rattle.ql_syntax.specs.declared.statement.Item.TheVariants as item
 use Rattle.ql_syntax.specs.declared.statement.RowSource.TheVariants as source
 use Rattle.ql_syntax.specs.declared.statement.Statement.TheVariants as s
 use Rattle.ql_syntax.specs.declared.typed.Typed.TheVariants as t
@@ -13,6 +14,7 @@ use Rattle.ql_syntax.specs.declared.typing.Typing.TheVariants.{OnlyNull, OfKind}
 use Rattle.ql_syntax.specs.declared.checked.Checked.{Checked}
 use Rattle.ql_rel.specs.declared.db.Db.{Db}
 use Rattle.ql_rel.specs.declared.db.Row.{Row}
+use Rattle.ql_rel.specs.declared.schema.Schema.{Schema}
 use Rattle.ql_syntax.specs.Answers.{refused, refused_at}
 use Rattle.ql_rel.specs.Changes.{row_of}
 use Rattle.ql_syntax.specs.Checked.{of_type, literal_of}
@@ -21,7 +23,11 @@ use Rattle.ql_rel.specs.Databases.{empty_db}
 use Rattle.ql_rel.specs.Events.{Event, shows, refused_in, places_of, told_by}
 use Rattle.ql_rel.specs.InsertPlans.{for_kind, counted_for}
 use Rattle.ql_rel.specs.SelectRows.{set_rows, heading, lines_of}
+use Rattle.ql_rel.specs.ChangePlans.{new_target}
+use Rattle.ql_rel.specs.CreatePlans.{no_parts}
 use Rattle.ql_rel.specs.StatementEffects.{statement_effect, rows_added}
+use Rattle.ql_rel.specs.StatementPlans.{statement_plan}
+use Rattle.ql_rel.specs.TablePlans.{dropped_column}
 
 abbrev column : List ℕ → Kind → ColumnDef
 column name kind = record { name = name; kind = kind; not_null = false; rule = None; default = None }
@@ -67,6 +73,58 @@ insert_nowhere = refl
 
 insert_named : statement_effect false (s.Insert (codes "t") (codes "a" ∷ []) (source.Rows [])) (with_rows_of 1 []) ≡ refused 10
 insert_named = refl
+
+-- a quiet CREATE TABLE looks at nothing behind a name that is there; the name itself is judged, and so is that of an index
+abbrev ix : Schema
+ix = record { tables = record { name = codes "t"; columns = t_columns } ∷ []; indexes = record { name = codes "ix"; table = codes "t"; item = item.Id; unique = false } ∷ [] }
+
+abbrev a_twice : List ColumnDef
+a_twice = column (codes "a") k.Int8 ∷ column (codes "a") k.Text ∷ []
+
+idle_create : statement_plan ix (s.CreateTable true (codes "t") a_twice) ≡ Ok no_parts
+idle_create = refl
+
+quiet_twice : statement_plan ix (s.CreateTable true (codes "v") a_twice) ≡ refused_at 4 (codes "a")
+quiet_twice = refl
+
+quiet_index : statement_plan ix (s.CreateTable true (codes "ix") t_columns) ≡ refused_at 4 (codes "ix")
+quiet_index = refl
+
+quiet_reserved : statement_plan ix (s.CreateTable true (codes "__v") t_columns) ≡ refused_at 9 (codes "__v")
+quiet_reserved = refl
+
+-- DROP TABLE: a set that describes the database itself is 9 also where the statement is quiet; an index is no table
+drop_metadata : statement_plan ix (s.DropTable true (codes "__Table")) ≡ refused_at 9 (codes "__Table")
+drop_metadata = refl
+
+idle_drop : statement_plan ix (s.DropTable true (codes "ix")) ≡ Ok no_parts
+idle_drop = refl
+
+drop_nowhere : statement_plan ix (s.DropTable false (codes "ix")) ≡ refused_at 1 (codes "ix")
+drop_nowhere = refl
+
+-- ALTER TABLE: the name of an index of the table; 2 before 6
+add_taken : statement_plan ix (s.AddColumn (codes "t") (column (codes "ix") k.Int8)) ≡ refused_at 4 (codes "ix")
+add_taken = refl
+
+add_other : statement_plan ix (s.AddColumn (codes "t") (column (codes "t") k.Int8)) ≡ Ok no_parts
+add_other = refl
+
+drop_no_column : statement_plan ix (s.DropColumn (codes "t") (codes "ix")) ≡ refused_at 2 (codes "ix")
+drop_no_column = refl
+
+drop_only : dropped_column (codes "a") (column (codes "a") k.Int8 ∷ []) ≡ refused 6
+drop_only = refl
+
+-- the columns of an UPDATE: 2 before 3
+set_twice : new_target t_columns (codes "a" ∷ []) (codes "a") ≡ refused_at 3 (codes "a")
+set_twice = refl
+
+set_nowhere : new_target t_columns (codes "c" ∷ []) (codes "c") ≡ refused_at 2 (codes "c")
+set_nowhere = refl
+
+set_second : new_target t_columns (codes "a" ∷ []) (codes "b") ≡ Ok (record { at = 1; kind = k.Text })
+set_second = refl
 
 -- values for columns: `127` and `128` for an int8, a string and NULL for one, `1` for a string; another number of values
 abbrev number : ℕ → Checked

@@ -19,6 +19,8 @@ pub mod NewNames
 pub mod CreatePlans
 pub mod InsertPlans
 pub mod InsertTypes
+pub mod TablePlans
+pub mod ChangePlans
 pub mod StatementPlans
 pub mod SelectRows
 pub mod StatementEffects

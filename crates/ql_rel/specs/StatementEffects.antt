@@ -1,5 +1,5 @@
 -- What a statement does to a database, and the text that it shows.
-use Rattle.std.specs.Prelude.{ℕ, Bool, List, [], ◌∷◌, map, Option, Some, None, Ok}
+use Rattle.std.specs.Prelude.{ℕ, Bool, false, List, [], ◌∷◌, map, Option, Some, None, Ok}
 use Rattle.ql_value.specs.declared.refusal.TheConstants.{LATER}
 use Rattle.ql_value.specs.declared.value.Value.{Value}
 use Rattle.ql_syntax.specs.declared.statement.Statement.{Statement}
@@ -54,10 +54,10 @@ inserts name rows db = then_with (rows_values rows) (λ values. rows_added (plac
 abbrev pub silent : Db → Answer (List ℕ × Db)
 silent db = Ok ([], db)
 
--- what a statement with a plan does: the text that it shows and the database after it, or its refusal
+-- what a statement with a plan does: the text that it shows and the database after it, or its refusal; those that are not named are not built yet
 abbrev pub carried : Bool → Statement → Plan → Db → Answer (List ℕ × Db)
 carried with_names (s.Query select) p db = then_with (select_text with_names db select p) (λ text. Ok (text, db))
-carried with_names (s.CreateTable quiet name columns) p db = then_with (table_added (record { name = name; columns = columns }) db) silent
+carried with_names (s.CreateTable false name columns) p db = then_with (table_added (record { name = name; columns = columns }) db) silent
 carried with_names (s.Insert name names rows_of) p db = then_with (inserts name p.rows db) silent
 carried with_names _ p db = refused LATER
 

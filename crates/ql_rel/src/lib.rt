@@ -2,6 +2,7 @@
 #![tactic(auto)]
 
 mod bounds;
+mod change;
 mod db;
 mod fault;
 mod fitting;
@@ -19,6 +20,7 @@ pub use bounds::{
     BRACKET_LIMIT, COLUMN_LIMIT, INDEX_LIMIT, KEY_LIMIT, LAST_ID, ROW_LIMIT, TABLE_LIMIT,
     TEXT_LIMIT,
 };
+pub use change::{Assigned, AssignedList, Target};
 pub use db::{Db, Row, Rows, Table, Tables};
 pub use fault::RelFault;
 pub use fitting::is_row_of;

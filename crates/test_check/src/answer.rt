@@ -3,13 +3,20 @@ use ql_check::{CheckFault, check};
 use ql_edge::{Bytes, NoMemory};
 use ql_lex::{LexFault, tokens};
 use ql_parse::{ParseFault, script};
-use ql_rel::{Indexes, Schema, TableSchema, TableSchemas};
+use ql_rel::{Index, Indexes, Schema, TableSchema, TableSchemas};
 use ql_syntax::{Statement, Statements};
 use ql_value::{Refusal, print_number};
 use std::alloc::Global;
 
+/// The tables and indexes that the CREATE statements at the head of a script make, each in the order of names.
+#[derive(Drop)]
+struct Made {
+    tables: Vec<TableSchema>,
+    indexes: Vec<Index>,
+}
+
 /// Puts a table where its name stands in the order of names.
-fn insert(tables: &mut Vec<TableSchema>, table: TableSchema) -> Result<(), NoMemory> {
+fn insert_table(tables: &mut Vec<TableSchema>, table: TableSchema) -> Result<(), NoMemory> {
     let behind = tables
         .iter()
         .position(|other| table.name.as_slice() < other.name.as_slice());
@@ -18,16 +25,56 @@ fn insert(tables: &mut Vec<TableSchema>, table: TableSchema) -> Result<(), NoMem
     Ok(())
 }
 
-/// The schema of tables that stand in the order of their names.
-fn schema_of(alloc: Global, sorted: Vec<TableSchema>) -> Result<Schema, NoMemory> {
+/// The same of an index.
+fn insert_index(indexes: &mut Vec<Index>, index: Index) -> Result<(), NoMemory> {
+    let behind = indexes
+        .iter()
+        .position(|other| index.name.as_slice() < other.name.as_slice());
+    let at = behind.unwrap_or(indexes.len());
+    indexes.insert(at, index)?;
+    Ok(())
+}
+
+/// Makes what a CREATE statement says, and gives every other statement back.
+fn make(made: &mut Made, statement: Statement) -> Result<Option<Statement>, NoMemory> {
+    match statement {
+        Statement::CreateTable { table, columns, .. } => {
+            let name = table;
+            insert_table(&mut made.tables, TableSchema { name, columns })?;
+            Ok(None)
+        }
+        Statement::CreateIndex {
+            unique,
+            index,
+            table,
+            item,
+            ..
+        } => {
+            let (name, item) = (index, item.into_inner());
+            let index = Index {
+                name,
+                table,
+                item,
+                unique,
+            };
+            insert_index(&mut made.indexes, index)?;
+            Ok(None)
+        }
+        other => Ok(Some(other)),
+    }
+}
+
+/// The schema of tables and indexes that stand in the order of their names.
+fn schema_of(alloc: Global, made: Made) -> Result<Schema, NoMemory> {
     let mut tables = TableSchemas::new(alloc);
-    for table in sorted {
+    for table in made.tables {
         tables.push(table)?;
     }
-    Ok(Schema {
-        tables,
-        indexes: Indexes::new(alloc),
-    })
+    let mut indexes = Indexes::new(alloc);
+    for index in made.indexes {
+        indexes.push(index)?;
+    }
+    Ok(Schema { tables, indexes })
 }
 
 fn add_refusal(refusal: &Refusal, out: &mut Bytes) -> Result<(), NoMemory> {
@@ -55,23 +102,21 @@ fn add_checked(
     }
 }
 
-/// Adds what the checker says of the statements of a script that make no table.
+/// Adds what the checker says of the statements of a script behind those at its head that make its schema.
 fn add_statements(alloc: Global, statements: Statements, out: &mut Bytes) -> Result<(), NoMemory> {
-    let mut tables = Vec::new(alloc);
+    let mut made = Made {
+        tables: Vec::new(alloc),
+        indexes: Vec::new(alloc),
+    };
     let mut others = Statements::new(alloc);
     for statement in statements.into_vec() {
-        match statement {
-            Statement::CreateTable { table, columns, .. } => insert(
-                &mut tables,
-                TableSchema {
-                    name: table,
-                    columns,
-                },
-            )?,
-            other => others.push(other)?,
+        if others.len() > 0 {
+            others.push(statement)?;
+        } else if let Some(other) = make(&mut made, statement)? {
+            others.push(other)?;
         }
     }
-    let schema = schema_of(alloc, tables)?;
+    let schema = schema_of(alloc, made)?;
     for (i, statement) in others.as_slice().iter().enumerate() {
         if i > 0 {
             out.extend(b" | ")?;

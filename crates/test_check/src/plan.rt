@@ -43,9 +43,39 @@ fn add_parts(parts: &Typeds, out: &mut Bytes) -> Result<(), NoMemory> {
     Ok(())
 }
 
+/// Adds the columns of an INSERT by their numbers, and how many rows it has.
+fn add_rows(plan: &Plan, out: &mut Bytes) -> Result<(), NoMemory> {
+    out.extend(b" INTO")?;
+    for (i, target) in plan.targets.as_slice().iter().enumerate() {
+        add_gap(i, out)?;
+        print_number(*target, out)?;
+    }
+    out.extend(b" ROWS ")?;
+    print_number(plan.rows.len() as u64, out)
+}
+
+/// Adds the columns of an UPDATE by their numbers, each with its new value.
+fn add_sets(plan: &Plan, out: &mut Bytes) -> Result<(), NoMemory> {
+    out.extend(b" SET")?;
+    let fields = plan.fields.as_slice();
+    for (i, (target, field)) in plan.targets.as_slice().iter().zip(fields).enumerate() {
+        add_gap(i, out)?;
+        print_number(*target, out)?;
+        out.extend(b" = -")?;
+        add_place(field, out)?;
+    }
+    Ok(())
+}
+
 /// Adds a plan.
 pub fn add_plan(plan: &Plan, out: &mut Bytes) -> Result<(), NoMemory> {
     out.extend(b"ok")?;
+    if plan.rows.len() > 0 {
+        return add_rows(plan, out);
+    }
+    if plan.targets.len() > 0 {
+        return add_sets(plan, out);
+    }
     add_fields(plan, out)?;
     if plan.grouped {
         out.extend(b" GROUP")?;

@@ -1,6 +1,6 @@
 -- Each part is given what it asks for, and does what the statement does.
 use Rattle.std.proofs.Common.{length}
-use Rattle.ql_exec.proofs.Carried.{query_planned, create_level, create_planned, create_read, insert_level, insert_planned, query_does, create_does, insert_does, others_planless}
+use Rattle.ql_exec.proofs.Carried.{query_planned, create_level, create_planned, create_read, insert_level, insert_planned, query_does, create_does, insert_does, others_do}
 use Rattle.ql_exec.proofs.statement.carry.Goals as goal
 
 pub add_select-requires-clause-plan : goal.add_select-requires-clause-plan
@@ -13,19 +13,19 @@ returns-in-Query-clause-done g c =
 
 pub create_table-requires-clause-level : goal.create_table-requires-clause-level
 create_table-requires-clause-level g c =
-    create_level c.args.statement.now _ c.in-CreateTable.table c.in-CreateTable.columns (length (g.R.Rel.saved c.args.rel.now)) c.in-CreateTable.is c.requires.level
+    create_level c.args.statement.now c.in-CreateTable.table c.in-CreateTable.columns (length (g.R.Rel.saved c.args.rel.now)) c.in-CreateTable.is c.requires.level
 
 pub create_table-requires-clause-plan : goal.create_table-requires-clause-plan
 create_table-requires-clause-plan g c =
-    create_planned (g.R.Rel.schema c.args.rel.now) c.args.statement.now _ c.in-CreateTable.table c.in-CreateTable.columns c.args.plan.now c.in-CreateTable.is c.requires.plan
+    create_planned (g.R.Rel.schema c.args.rel.now) c.args.statement.now c.in-CreateTable.table c.in-CreateTable.columns c.args.plan.now c.in-CreateTable.is c.requires.plan
 
 pub create_table-requires-clause-read : goal.create_table-requires-clause-read
 create_table-requires-clause-read g c =
-    create_read (g.R.Rel.schema c.args.rel.now) c.args.statement.now _ c.in-CreateTable.table c.in-CreateTable.columns c.args.plan.now c.in-CreateTable.is c.requires.plan c.requires.read
+    create_read c.args.statement.now c.in-CreateTable.table c.in-CreateTable.columns c.in-CreateTable.is c.requires.read
 
 pub returns-in-CreateTable-clause-done : goal.returns-in-CreateTable-clause-done
 returns-in-CreateTable-clause-done g c =
-    create_does c.args.with_names c.args.statement.now _ c.in-CreateTable.table c.in-CreateTable.columns c.args.plan.now _ _ _ _ c.in-CreateTable.is c.create_table.ensures.done
+    create_does c.args.with_names c.args.statement.now c.in-CreateTable.table c.in-CreateTable.columns c.args.plan.now _ _ _ _ c.in-CreateTable.is c.create_table.ensures.done
 
 pub insert_rows-requires-clause-level : goal.insert_rows-requires-clause-level
 insert_rows-requires-clause-level g c =
@@ -45,4 +45,4 @@ returns-in-Insert-clause-done g c =
 
 pub returns-in_default-clause-done : goal.returns-in_default-clause-done
 returns-in_default-clause-done g c =
-    absurd (others_planless (g.R.Rel.schema c.args.rel.now) c.args.statement.now c.args.plan.now c.requires.plan c.in_default.not-Query c.in_default.not-CreateTable c.in_default.not-Insert)
+    others_do _ c.args.with_names c.args.statement.now c.args.plan.now c.refusal.result _ _ _ _ c.refusal.ensures c.in_default.not-Query c.in_default.not-CreateTable c.in_default.not-Insert
