@@ -9,7 +9,7 @@ use Rattle.ql_mem_rel.specs.declared.plain_db.PlainDb.{PlainDb}
 use Rattle.ql_rel.specs.declared.schema.Schema.{Schema}
 use Rattle.ql_rel.specs.Databases.{schema_of}
 use Rattle.ql_mem_rel.specs.Kept.{db_of, saved_of, WantsMemory}
-use Rattle.ql_rel.specs.Refusals.{IsCausedRel, IsTroubleCaused}
+use Rattle.ql_rel.specs.Refusals.{IsCausedRel, IsTroubleCaused, NeedsAtMost}
 
 pub saved_length : (all : List PlainDb) → length (saved_of all) ≡ length all
 saved_length [] = refl
@@ -27,3 +27,12 @@ caused limit told (Err (fault.KeyTooLong name)) n h = refl
 caused limit told (Err fault.IdsSpent) n h = refl
 caused limit told (Err fault.TableLimit) n h = refl
 caused limit told (Err (fault.Trouble t)) n h = rw h refl
+
+-- nor does it ask for more than there is
+pub never_full : {T : Type 0} (size : ℕ) (r : Result T RelFault) → WantsMemory r → NeedsAtMost size r
+never_full size (Ok x) h = tt
+never_full size (Err fault.RowTooLong) h = tt
+never_full size (Err (fault.KeyTooLong name)) h = tt
+never_full size (Err fault.IdsSpent) h = tt
+never_full size (Err fault.TableLimit) h = tt
+never_full size (Err (fault.Trouble t)) h = rw h tt

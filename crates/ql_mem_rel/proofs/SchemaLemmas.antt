@@ -1,5 +1,6 @@
 -- What tables hold when tables and columns come and go.
 use Rattle.std.proofs.Common.{◌≡◌, ℕ, zero, suc, ◌+◌, ◌<◌, ◌≤◌, Bool, true, false, cond, not, ◌||◌, nat_lt, nat_le, List, [], ◌∷◌, ◌++◌, length, map, take, drop, insert, remove, get_or, slice_get, Option, Some, None, Result, Ok, Err, refl, sym, ap, subst, ◌∙◌, arith}
+use Rattle.std.specs.Prelude.{OnOk, OnErr}
 use Rattle.std.proofs.lemmas.Bool.Decides.{nat_tests}
 use Rattle.std.proofs.lemmas.Option.{slice_get-get_or}
 use Rattle.std.proofs.Common.{filter, if◌then◌else◌, ◌==◌}
@@ -11,7 +12,7 @@ use Rattle.ql_rel.specs.declared.db.Row.{Row}
 use Rattle.ql_rel.specs.declared.db.Table.{Table}
 use Rattle.ql_rel.specs.declared.fault.RelFault.{RelFault}
 use Rattle.ql_rel.specs.declared.fault.RelFault.TheVariants as fault
-use Rattle.ql_rel.specs.declared.limit.TheConstants.{TABLE_LIMIT}
+use Rattle.ql_rel.specs.declared.bounds.TheConstants.{TABLE_LIMIT}
 use Rattle.ql_rel.specs.declared.schema.Index.{Index}
 use Rattle.ql_rel.specs.declared.schema.Schema.{Schema}
 use Rattle.ql_rel.specs.declared.schema.TableSchema.{TableSchema}
@@ -57,6 +58,12 @@ pub length-placed : {A : Type 0} (x : A) (n : ℕ) (xs : List A) → length (ins
 length-placed x zero xs = refl
 length-placed x (suc n) [] = refl
 length-placed x (suc n) (y ∷ xs) = ap suc (length-placed x n xs)
+
+-- what is put in and taken out again leaves the list
+pub insert_removed : {A : Type 0} (x : A) (n : ℕ) (xs : List A) → n ≤ length xs → remove (insert xs n x) n ≡ xs
+insert_removed x zero xs h = refl
+insert_removed x (suc n) [] h = absurd (omega (arith, h))
+insert_removed {A = A} x (suc n) (y ∷ xs) h = ap (λ (ys : List A). y ∷ ys) (insert_removed x n xs (omega (arith, h)))
 
 within_placed : (t : TableSchema) (n : ℕ) (tables : List TableSchema) → IsTableWithin t → AllByRecursion IsTableWithin tables → AllByRecursion IsTableWithin (insert tables n t)
 within_placed t zero tables w h = (w, h)
@@ -234,3 +241,12 @@ pub db_dropped_as : (next n : ℕ) (schema : Schema) (xs new : List TableSchema)
 db_dropped_as next n schema xs new ys is rows all d h l a e b g q =
     let there : get_or xs n d ≡ get_or schema.tables n (get_or xs n d) = ap (λ (ts : List TableSchema). get_or ts n d) a ∙ get_or-any schema.tables n d (get_or xs n d) l in
     db_dropped next n schema xs new is rows all (get_or xs n d) h l there a e (g ∙ ap (λ (k : List Index). filter (is_of_other (get_or xs n d).name) k) b) q
+
+-- what holds of tables and rows before and after one more is put in holds whatever the answer was
+pub after_insert : {T E : Type 0} (P : List TableSchema → List (List Row) → Type 0) (r : Result T E) (t : TableSchema) (n : ℕ) (tables new : List TableSchema) (rows all : List (List Row)) →
+    OnOk r (new ≡ insert tables n t) → OnOk r (all ≡ insert rows n []) → OnErr r (new ≡ tables) → OnErr r (all ≡ rows) → P (insert tables n t) (insert rows n []) → P tables rows → P new all
+after_insert P (Ok x) t n tables new rows all e f g h more before = subst (λ (ts : List TableSchema). P ts all) (sym e) (subst (λ (rs : List (List Row)). P (insert tables n t) rs) (sym f) more)
+after_insert P (Err x) t n tables new rows all e f g h more before = subst (λ (ts : List TableSchema). P ts all) (sym g) (subst (λ (rs : List (List Row)). P tables rs) (sym h) before)
+
+pub within_copied : (t u : TableSchema) (n : ℕ) (schema : Schema) → t ≡ u → 0 < length u.columns → is_past_table u schema ≡ false → IsWithin schema → IsWithin (record { tables = insert schema.tables n t; indexes = schema.indexes })
+within_copied t u n schema e some past w = within_created t n schema (subst (λ (x : TableSchema). 0 < length x.columns) (sym e) some) (subst (λ (x : TableSchema). is_past_table x schema ≡ false) (sym e) past) w
