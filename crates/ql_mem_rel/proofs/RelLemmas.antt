@@ -1,15 +1,12 @@
 -- What is said of a relation in memory.
-use Rattle.std.proofs.Common.{◌≡◌, ℕ, suc, ◌+◌, List, [], ◌∷◌, ◌++◌, length, Bool, Option, Some, None, Result, Ok, Err, refl, sym, ap, ◌∙◌, arith}
+use Rattle.std.proofs.Common.{◌≡◌, ℕ, List, [], ◌∷◌, ◌++◌, length, Option, Some, Result, Ok, Err, refl, ap, ◌∙◌, arith}
 use Rattle.std.proofs.lemmas.List.{length-append}
-use Rattle.lldb_base.specs.declared.trouble.Trouble.TheVariants as trouble
 use Rattle.ql_rel.specs.declared.db.Db.{Db}
 use Rattle.ql_rel.specs.declared.fault.RelFault.{RelFault}
 use Rattle.ql_rel.specs.declared.fault.RelFault.TheVariants as fault
 use Rattle.ql_mem_rel.specs.declared.plain_db.PlainDb.{PlainDb}
-use Rattle.ql_rel.specs.declared.schema.Schema.{Schema}
-use Rattle.ql_rel.specs.Databases.{schema_of}
 use Rattle.ql_mem_rel.specs.Kept.{db_of, saved_of, WantsMemory}
-use Rattle.ql_rel.specs.Refusals.{IsCausedRel, IsTroubleCaused, NeedsAtMost}
+use Rattle.ql_rel.specs.Refusals.{IsCausedRel, NeedsAtMost}
 
 pub saved_length : (all : List PlainDb) → length (saved_of all) ≡ length all
 saved_length [] = refl

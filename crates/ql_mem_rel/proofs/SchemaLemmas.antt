@@ -1,26 +1,24 @@
 -- What tables hold when tables and columns come and go.
-use Rattle.std.proofs.Common.{◌≡◌, ℕ, zero, suc, ◌+◌, ◌<◌, ◌≤◌, Bool, true, false, cond, not, ◌||◌, nat_lt, nat_le, List, [], ◌∷◌, ◌++◌, length, map, take, drop, insert, remove, get_or, slice_get, Option, Some, None, Result, Ok, Err, refl, sym, ap, subst, ◌∙◌, arith}
+use Rattle.std.proofs.Common.{◌≡◌, ℕ, zero, suc, ◌<◌, ◌≤◌, Bool, true, false, cond, ◌||◌, nat_lt, nat_le, List, [], ◌∷◌, length, insert, remove, get_or, slice_get, Option, Some, None, Result, Ok, Err, refl, sym, ap, subst, ◌∙◌, arith}
 use Rattle.std.specs.Prelude.{OnOk, OnErr}
 use Rattle.std.proofs.lemmas.Bool.Decides.{nat_tests}
 use Rattle.std.proofs.lemmas.Option.{slice_get-get_or}
-use Rattle.std.proofs.Common.{filter, if◌then◌else◌, ◌==◌}
+use Rattle.std.proofs.Common.{filter, ◌==◌}
 use Rattle.std.specs.List.{list_any, AllByRecursion}
 use Rattle.ql_syntax.specs.declared.statement.ColumnDef.{ColumnDef}
-use Rattle.ql_rel.specs.Limits.{most_indexes, most_columns}
-use Rattle.ql_rel.specs.declared.db.Db.{Db}
+use Rattle.ql_rel.specs.Limits.{most_columns}
 use Rattle.ql_rel.specs.declared.db.Row.{Row}
 use Rattle.ql_rel.specs.declared.db.Table.{Table}
 use Rattle.ql_rel.specs.declared.fault.RelFault.{RelFault}
-use Rattle.ql_rel.specs.declared.fault.RelFault.TheVariants as fault
 use Rattle.ql_rel.specs.declared.bounds.TheConstants.{TABLE_LIMIT}
 use Rattle.ql_rel.specs.declared.schema.Index.{Index}
 use Rattle.ql_rel.specs.declared.schema.Schema.{Schema}
 use Rattle.ql_rel.specs.declared.schema.TableSchema.{TableSchema}
-use Rattle.ql_rel.specs.Changes.{changed_at, new_table, table_created, table_dropped, id_after, is_of_other}
+use Rattle.ql_rel.specs.Changes.{new_table, table_created, table_dropped, id_after, is_of_other}
 use Rattle.ql_rel.specs.Limits.{is_past_column, are_past_columns, is_past_table, IsTableWithin, IsWithin}
 use Rattle.ql_rel.specs.Names.{comes_before, placed}
 use Rattle.ql_rel.specs.Databases.{schema_of, name_at, name_if}
-use Rattle.ql_mem_rel.specs.Places.{place_before, with_columns, id_for}
+use Rattle.ql_mem_rel.specs.Places.{place_before, id_for}
 use Rattle.ql_mem_rel.specs.PlainDbs.{db_with, tables_with, Hold}
 use Rattle.ql_rel.specs.Refusals.{refused_if}
 use Rattle.ql_mem_rel.proofs.TableLemmas.{hold_length, schema_with}

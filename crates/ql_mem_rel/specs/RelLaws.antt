@@ -1,6 +1,6 @@
 -- Why a relation in memory keeps the laws of one.
-use Rattle.std.specs.Prelude.{◌≡◌, ℕ, suc, Bool, List, [], ◌∷◌, length, map, Option, refl}
-use Rattle.std.proofs.Common.{sym, ap, ◌∙◌, arith}
+use Rattle.std.specs.Prelude.{◌≡◌, ℕ, Bool, List, [], ◌∷◌, map, Option, refl}
+use Rattle.std.proofs.Common.{ap, ◌∙◌}
 use Rattle.ql_rel.specs.declared.db.Db.{Db}
 use Rattle.ql_rel.specs.declared.db.Row.{Row}
 use Rattle.ql_mem_rel.specs.declared.plain_db.PlainDb.{PlainDb}
