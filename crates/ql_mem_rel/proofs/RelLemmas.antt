@@ -1,15 +1,12 @@
 -- What is said of a relation in memory.
-use Rattle.std.proofs.Common.{◌≡◌, ℕ, suc, ◌+◌, List, [], ◌∷◌, ◌++◌, length, Bool, Option, Some, None, Result, Ok, Err, refl, sym, ap, ◌∙◌, arith}
+use Rattle.std.proofs.Common.{◌≡◌, ℕ, List, [], ◌∷◌, ◌++◌, length, Option, Some, Result, Ok, Err, refl, ap, ◌∙◌, arith}
 use Rattle.std.proofs.lemmas.List.{length-append}
-use Rattle.lldb_base.specs.declared.trouble.Trouble.TheVariants as trouble
 use Rattle.ql_rel.specs.declared.db.Db.{Db}
 use Rattle.ql_rel.specs.declared.fault.RelFault.{RelFault}
 use Rattle.ql_rel.specs.declared.fault.RelFault.TheVariants as fault
 use Rattle.ql_mem_rel.specs.declared.plain_db.PlainDb.{PlainDb}
-use Rattle.ql_rel.specs.declared.schema.Schema.{Schema}
-use Rattle.ql_rel.specs.Databases.{schema_of}
 use Rattle.ql_mem_rel.specs.Kept.{db_of, saved_of, WantsMemory}
-use Rattle.ql_rel.specs.Refusals.{IsCausedRel, IsTroubleCaused}
+use Rattle.ql_rel.specs.Refusals.{IsCausedRel, NeedsAtMost}
 
 pub saved_length : (all : List PlainDb) → length (saved_of all) ≡ length all
 saved_length [] = refl
@@ -27,3 +24,12 @@ caused limit told (Err (fault.KeyTooLong name)) n h = refl
 caused limit told (Err fault.IdsSpent) n h = refl
 caused limit told (Err fault.TableLimit) n h = refl
 caused limit told (Err (fault.Trouble t)) n h = rw h refl
+
+-- nor does it ask for more than there is
+pub never_full : {T : Type 0} (size : ℕ) (r : Result T RelFault) → WantsMemory r → NeedsAtMost size r
+never_full size (Ok x) h = tt
+never_full size (Err fault.RowTooLong) h = tt
+never_full size (Err (fault.KeyTooLong name)) h = tt
+never_full size (Err fault.IdsSpent) h = tt
+never_full size (Err fault.TableLimit) h = tt
+never_full size (Err (fault.Trouble t)) h = rw h tt

@@ -1,25 +1,24 @@
 -- What tables hold when tables and columns come and go.
-use Rattle.std.proofs.Common.{◌≡◌, ℕ, zero, suc, ◌+◌, ◌<◌, ◌≤◌, Bool, true, false, cond, not, ◌||◌, nat_lt, nat_le, List, [], ◌∷◌, ◌++◌, length, map, take, drop, insert, remove, get_or, slice_get, Option, Some, None, Result, Ok, Err, refl, sym, ap, subst, ◌∙◌, arith}
+use Rattle.std.proofs.Common.{◌≡◌, ℕ, zero, suc, ◌<◌, ◌≤◌, Bool, true, false, cond, ◌||◌, nat_lt, nat_le, List, [], ◌∷◌, length, insert, remove, get_or, slice_get, Option, Some, None, Result, Ok, Err, refl, sym, ap, subst, ◌∙◌, arith}
+use Rattle.std.specs.Prelude.{OnOk, OnErr}
 use Rattle.std.proofs.lemmas.Bool.Decides.{nat_tests}
 use Rattle.std.proofs.lemmas.Option.{slice_get-get_or}
-use Rattle.std.proofs.Common.{filter, if◌then◌else◌, ◌==◌}
+use Rattle.std.proofs.Common.{filter, ◌==◌}
 use Rattle.std.specs.List.{list_any, AllByRecursion}
 use Rattle.ql_syntax.specs.declared.statement.ColumnDef.{ColumnDef}
-use Rattle.ql_rel.specs.Limits.{most_indexes, most_columns}
-use Rattle.ql_rel.specs.declared.db.Db.{Db}
+use Rattle.ql_rel.specs.Limits.{most_columns}
 use Rattle.ql_rel.specs.declared.db.Row.{Row}
 use Rattle.ql_rel.specs.declared.db.Table.{Table}
 use Rattle.ql_rel.specs.declared.fault.RelFault.{RelFault}
-use Rattle.ql_rel.specs.declared.fault.RelFault.TheVariants as fault
-use Rattle.ql_rel.specs.declared.limit.TheConstants.{TABLE_LIMIT}
+use Rattle.ql_rel.specs.declared.bounds.TheConstants.{TABLE_LIMIT}
 use Rattle.ql_rel.specs.declared.schema.Index.{Index}
 use Rattle.ql_rel.specs.declared.schema.Schema.{Schema}
 use Rattle.ql_rel.specs.declared.schema.TableSchema.{TableSchema}
-use Rattle.ql_rel.specs.Changes.{changed_at, new_table, table_created, table_dropped, id_after, is_of_other}
+use Rattle.ql_rel.specs.Changes.{new_table, table_created, table_dropped, id_after, is_of_other}
 use Rattle.ql_rel.specs.Limits.{is_past_column, are_past_columns, is_past_table, IsTableWithin, IsWithin}
 use Rattle.ql_rel.specs.Names.{comes_before, placed}
 use Rattle.ql_rel.specs.Databases.{schema_of, name_at, name_if}
-use Rattle.ql_mem_rel.specs.Places.{place_before, with_columns, id_for}
+use Rattle.ql_mem_rel.specs.Places.{place_before, id_for}
 use Rattle.ql_mem_rel.specs.PlainDbs.{db_with, tables_with, Hold}
 use Rattle.ql_rel.specs.Refusals.{refused_if}
 use Rattle.ql_mem_rel.proofs.TableLemmas.{hold_length, schema_with}
@@ -57,6 +56,12 @@ pub length-placed : {A : Type 0} (x : A) (n : ℕ) (xs : List A) → length (ins
 length-placed x zero xs = refl
 length-placed x (suc n) [] = refl
 length-placed x (suc n) (y ∷ xs) = ap suc (length-placed x n xs)
+
+-- what is put in and taken out again leaves the list
+pub insert_removed : {A : Type 0} (x : A) (n : ℕ) (xs : List A) → n ≤ length xs → remove (insert xs n x) n ≡ xs
+insert_removed x zero xs h = refl
+insert_removed x (suc n) [] h = absurd (omega (arith, h))
+insert_removed {A = A} x (suc n) (y ∷ xs) h = ap (λ (ys : List A). y ∷ ys) (insert_removed x n xs (omega (arith, h)))
 
 within_placed : (t : TableSchema) (n : ℕ) (tables : List TableSchema) → IsTableWithin t → AllByRecursion IsTableWithin tables → AllByRecursion IsTableWithin (insert tables n t)
 within_placed t zero tables w h = (w, h)
@@ -234,3 +239,12 @@ pub db_dropped_as : (next n : ℕ) (schema : Schema) (xs new : List TableSchema)
 db_dropped_as next n schema xs new ys is rows all d h l a e b g q =
     let there : get_or xs n d ≡ get_or schema.tables n (get_or xs n d) = ap (λ (ts : List TableSchema). get_or ts n d) a ∙ get_or-any schema.tables n d (get_or xs n d) l in
     db_dropped next n schema xs new is rows all (get_or xs n d) h l there a e (g ∙ ap (λ (k : List Index). filter (is_of_other (get_or xs n d).name) k) b) q
+
+-- what holds of tables and rows before and after one more is put in holds whatever the answer was
+pub after_insert : {T E : Type 0} (P : List TableSchema → List (List Row) → Type 0) (r : Result T E) (t : TableSchema) (n : ℕ) (tables new : List TableSchema) (rows all : List (List Row)) →
+    OnOk r (new ≡ insert tables n t) → OnOk r (all ≡ insert rows n []) → OnErr r (new ≡ tables) → OnErr r (all ≡ rows) → P (insert tables n t) (insert rows n []) → P tables rows → P new all
+after_insert P (Ok x) t n tables new rows all e f g h more before = subst (λ (ts : List TableSchema). P ts all) (sym e) (subst (λ (rs : List (List Row)). P (insert tables n t) rs) (sym f) more)
+after_insert P (Err x) t n tables new rows all e f g h more before = subst (λ (ts : List TableSchema). P ts all) (sym g) (subst (λ (rs : List (List Row)). P tables rs) (sym h) before)
+
+pub within_copied : (t u : TableSchema) (n : ℕ) (schema : Schema) → t ≡ u → 0 < length u.columns → is_past_table u schema ≡ false → IsWithin schema → IsWithin (record { tables = insert schema.tables n t; indexes = schema.indexes })
+within_copied t u n schema e some past w = within_created t n schema (subst (λ (x : TableSchema). 0 < length x.columns) (sym e) some) (subst (λ (x : TableSchema). is_past_table x schema ≡ false) (sym e) past) w

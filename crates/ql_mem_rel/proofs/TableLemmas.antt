@@ -5,7 +5,6 @@ use Rattle.std.proofs.lemmas.Bool.Decides.{nat_tests}
 use Rattle.std.specs.Option.{option_copied}
 use Rattle.ql_value.specs.declared.value.Value.{Value}
 use Rattle.ql_syntax.specs.declared.statement.ColumnDef.{ColumnDef}
-use Rattle.ql_rel.specs.declared.db.Db.{Db}
 use Rattle.ql_rel.specs.declared.db.Row.{Row}
 use Rattle.ql_rel.specs.declared.db.Table.{Table}
 use Rattle.ql_rel.specs.declared.schema.Schema.{Schema}
@@ -14,7 +13,7 @@ use Rattle.ql_rel.specs.declared.fault.RelFault.{RelFault}
 use Rattle.ql_rel.specs.declared.fault.RelFault.TheVariants as fault
 use Rattle.ql_rel.specs.Limits.{last_id}
 use Rattle.ql_rel.specs.Refusals.{IsRefusedBy, or_next, row_refusal, insert_refusal}
-use Rattle.ql_rel.specs.Changes.{changed_at, rows_changed, inserted, with_rows, with_row, row_of, with_values, is_other, no_rows}
+use Rattle.ql_rel.specs.Changes.{changed_at, rows_changed, inserted, with_rows, with_row, row_of, with_values, no_rows}
 use Rattle.ql_rel.specs.Databases.{columns_if, rows_if, rows_at, table_schema, schema_of}
 use Rattle.ql_mem_rel.specs.Places.{with_columns}
 use Rattle.ql_mem_rel.specs.PlainDbs.{db_with, tables_with, Hold}

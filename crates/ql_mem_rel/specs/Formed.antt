@@ -1,6 +1,6 @@
 -- Databases in memory that are well formed. A database is so in one way.
-use Rattle.std.specs.Prelude.{◌≡◌, ℕ, true, List, [], ◌∷◌, Option, None}
-use Rattle.std.specs.Coded.{×_prop, Unit-prop}
+use Rattle.std.specs.Prelude.{ℕ, List, [], ◌∷◌}
+use Rattle.std.specs.Coded.{Unit-prop}
 use Rattle.std.specs.List.{AllByRecursion, AllByRecursion-prop}
 use Rattle.std.proofs.Props.{props}
 use Rattle.std.proofs.Math.Logic.{∥∥₁_prop, ∥∥₁_elim}
@@ -12,7 +12,7 @@ use Rattle.ql_rel.specs.declared.schema.Index.{Index}
 use Rattle.ql_rel.specs.declared.schema.Schema.{Schema}
 use Rattle.ql_rel.specs.Creates.{create_statements}
 use Rattle.ql_rel.specs.Databases.{schema_of}
-use Rattle.ql_rel.specs.Names.{comes_before, IsByName, table_names, index_names}
+use Rattle.ql_rel.specs.Names.{IsByName, table_names, index_names}
 use Rattle.ql_rel.specs.WellFormed.{IsReadAsItself, IsMade, IsShort, HoldsRows, IsWellFormed}
 use Rattle.ql_mem_rel.specs.declared.plain_db.PlainDb.{PlainDb}
 use Rattle.ql_mem_rel.specs.Kept.{db_of}

@@ -73,11 +73,11 @@ impl Shows for MemRel {
 
     ghost same = { λ x y. IsSameRel (Some (db_of x.present)) (Some (db_of y.present))
         (saved_of x.saved.items) (saved_of y.saved.items) x.present.schema y.present.schema
-        x.given y.given x.ready y.ready true true None None };
+        x.given y.given x.ready y.ready true true None None 0 0 };
 
     ghost fixed = { λ _. [] };
 
-    ghost same_reflexive = { λ x. same_first _ _ _ _ _ _ _ };
+    ghost same_reflexive = { λ x. same_first _ _ _ _ _ _ _ _ };
 
     ghost same_transitive = { λ x y z p q. same_then p q };
 
@@ -104,6 +104,8 @@ impl Rel for MemRel {
     ghost is_sound = { λ _. true };
 
     ghost limit = { λ _. None };
+
+    ghost size = { λ _. 0 };
 
     fn schema(&self) -> &Schema {
         &self.present.schema
@@ -140,7 +142,7 @@ impl Rel for MemRel {
         Ok(true)
     }
 
-    #[tactic(auto, using(crate::proofs::RelLemmas::caused, crate::proofs::FormedLemmas::inserted_formed, crate::proofs::FormedLemmas::same_formed))]
+    #[tactic(auto, using(crate::proofs::RelLemmas::caused, crate::proofs::RelLemmas::never_full, crate::proofs::FormedLemmas::inserted_formed, crate::proofs::FormedLemmas::same_formed))]
     fn insert(&mut self, table: u32, values: &Values) -> Result<u64, RelFault> {
         form_laws();
         self.ready = false;
@@ -149,7 +151,7 @@ impl Rel for MemRel {
         Ok(id)
     }
 
-    #[tactic(auto, using(crate::proofs::RelLemmas::caused, crate::proofs::FormedLemmas::changed_formed, crate::proofs::FormedLemmas::same_formed))]
+    #[tactic(auto, using(crate::proofs::RelLemmas::caused, crate::proofs::RelLemmas::never_full, crate::proofs::FormedLemmas::changed_formed, crate::proofs::FormedLemmas::same_formed))]
     fn change(&mut self, table: u32, id: u64, values: &Values) -> Result<(), RelFault> {
         form_laws();
         self.ready = false;
@@ -165,7 +167,7 @@ impl Rel for MemRel {
         Ok(())
     }
 
-    #[tactic(auto, using(crate::proofs::RelLemmas::caused, crate::proofs::FormedLemmas::created_formed, crate::proofs::FormedLemmas::same_formed))]
+    #[tactic(auto, using(crate::proofs::RelLemmas::caused, crate::proofs::RelLemmas::never_full, crate::proofs::FormedLemmas::created_formed, crate::proofs::FormedLemmas::same_formed))]
     fn create_table(&mut self, table: &TableSchema) -> Result<(), RelFault> {
         form_laws();
         self.ready = false;
@@ -190,7 +192,7 @@ impl Rel for MemRel {
         Ok(())
     }
 
-    #[tactic(auto, using(crate::proofs::RelLemmas::caused, crate::proofs::FormedLemmas::added_formed, crate::proofs::FormedLemmas::same_formed))]
+    #[tactic(auto, using(crate::proofs::RelLemmas::caused, crate::proofs::RelLemmas::never_full, crate::proofs::FormedLemmas::added_formed, crate::proofs::FormedLemmas::same_formed))]
     fn add_column(&mut self, table: u32, column: &ColumnDef) -> Result<(), RelFault> {
         form_laws();
         self.ready = false;

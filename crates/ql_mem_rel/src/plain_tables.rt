@@ -9,11 +9,12 @@ ghost use Rattle.ql_rel.specs.Refusals.{table_refusal, IsRefusedBy};
 
 use crate::plain_db::PlainDb;
 use crate::row_list::RowList;
-use crate::schema_change::{insert_table, other_indexes, place_of, remove_table};
+use crate::schema_change::{other_indexes, place_of, remove_table};
 use ql_edge::{Boxed, Bytes, NoMemory};
 use ql_print::print_expr;
 use ql_rel::{
-    COLUMN_LIMIT, RelFault, Schema, TABLE_LIMIT, TableSchema, TableSchemas, is_past_text,
+    COLUMN_LIMIT, RelFault, Schema, TABLE_LIMIT, TableSchema, TableSchemas, copy_table,
+    is_past_text,
 };
 use ql_syntax::{ColumnDef, Expr};
 use std::alloc::Global;
@@ -62,14 +63,29 @@ fn check_table(alloc: Global, schema: &Schema, table: &TableSchema) -> Result<()
     Ok(())
 }
 
-/// Puts an empty list of rows at a place.
-fn insert_rows(alloc: Global, rows: &mut Vec<RowList>, at: usize) -> Result<(), NoMemory>
-    requires { at ≤ vec_len rows.old }
-    ensures ok { OnOk result (rows.new.items ≡ insert rows.old.items at []) }
-    ensures err { OnErr result (rows.new.items ≡ rows.old.items) }
+/// Puts a table without rows at a place. After a refusal all is as before.
+fn insert_table(
+    alloc: Global,
+    tables: &mut TableSchemas,
+    rows: &mut Vec<RowList>,
+    at: usize,
+    table: TableSchema,
+) -> Result<(), NoMemory>
+    requires within { at ≤ length tables.old }
+    requires rows_within { at ≤ vec_len rows.old }
+    ensures tables { OnOk result (tables.new ≡ insert tables.old at table) }
+    ensures rows { OnOk result (rows.new.items ≡ insert rows.old.items at []) }
+    ensures tables_kept { OnErr result (tables.new ≡ tables.old) }
+    ensures rows_kept { OnErr result (rows.new.items ≡ rows.old.items) }
 {
     rows.insert(at, RowList::new(alloc))?;
-    Ok(())
+    match tables.insert(at, table) {
+        Ok(()) => Ok(()),
+        Err(refused) => {
+            rows.remove(at);
+            Err(refused)
+        }
+    }
 }
 
 /// The next id, which is 1 again where no table is left.
@@ -89,10 +105,9 @@ impl PlainDb {
         ensures memory { WantsMemory result }
     {
         check_table(alloc, &self.schema, table)?;
+        let copy = copy_table(alloc, table)?;
         let at = place_of(&table.name, self.schema.tables.as_slice());
-        let tables = insert_table(alloc, self.schema.tables.as_slice(), at, table)?;
-        insert_rows(alloc, &mut self.rows, at)?;
-        self.schema.tables = tables;
+        insert_table(alloc, &mut self.schema.tables, &mut self.rows, at, copy)?;
         Ok(())
     }
 

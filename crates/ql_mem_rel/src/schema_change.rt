@@ -1,12 +1,10 @@
 //! Copies of a schema with a part changed.
-ghost use Rattle.std.specs.Prelude.{◌≡◌, ◌<◌, ◌≤◌, length, filter, insert, remove, IfOk};
+ghost use Rattle.std.specs.Prelude.{◌≡◌, ◌<◌, length, filter, remove, IfOk};
 ghost use Rattle.ql_rel.specs.Changes.{changed_at, is_of_other, is_not_by, is_by as by_column};
 ghost use Rattle.ql_mem_rel.specs.Places.{place_before, with_columns};
 
 use ql_edge::{Name, NoMemory};
-use ql_rel::{
-    Index, Indexes, TableSchema, TableSchemas, add_tables, copy_index, copy_name, copy_table,
-};
+use ql_rel::{Index, Indexes, TableSchema, TableSchemas, add_tables, copy_index, copy_name};
 use ql_syntax::{ColumnDefs, Item};
 use std::alloc::Global;
 
@@ -20,23 +18,6 @@ pub(crate) fn place_of(name: &Name, tables: &[TableSchema]) -> usize
         }
     }
     tables.len()
-}
-
-/// Copies of the tables, with one more at a place.
-pub(crate) fn insert_table(
-    alloc: Global,
-    tables: &[TableSchema],
-    at: usize,
-    table: &TableSchema,
-) -> Result<TableSchemas, NoMemory>
-    requires { at ≤ length tables.now }
-    ensures { IfOk result (λ copy. copy ≡ insert tables.now at table.now) }
-{
-    let mut copy = TableSchemas::new(alloc);
-    add_tables(alloc, &tables[..at], &mut copy)?;
-    copy.push(copy_table(alloc, table)?)?;
-    add_tables(alloc, &tables[at..], &mut copy)?;
-    Ok(copy)
 }
 
 /// Copies of the tables but the one at a place.

@@ -1,5 +1,5 @@
-use Rattle.std.proofs.Common.{◌≡◌, ◌<◌, length, vec_len, map, filter, rules, arith}
-use Rattle.ql_rel.specs.Changes.{with_row, with_values, is_other, no_rows}
+use Rattle.std.proofs.Common.{◌≡◌, length, vec_len, map, rules, arith}
+use Rattle.ql_rel.specs.Changes.{with_values}
 use Rattle.ql_mem_rel.proofs.TableLemmas.{set-as}
 use Rattle.ql_mem_rel.proofs.plain_rows.change_row.Goals as goal
 

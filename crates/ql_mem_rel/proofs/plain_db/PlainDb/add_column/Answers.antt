@@ -1,4 +1,4 @@
-use Rattle.std.proofs.Common.{◌≡◌, length, vec_len, ◌∙◌, sym, rules}
+use Rattle.std.proofs.Common.{◌≡◌, length, vec_len, ◌∙◌, rules}
 use Rattle.ql_mem_rel.specs.PlainDbs.{Hold}
 use Rattle.ql_mem_rel.proofs.ColumnLemmas.{hold_swapped, holds_added, within_added, db_added}
 use Rattle.ql_mem_rel.proofs.TableLemmas.{hold_length}

@@ -1,4 +1,4 @@
-use Rattle.std.proofs.Common.{◌≡◌, List, map, filter, find, sym, ap, ◌∙◌}
+use Rattle.std.proofs.Common.{List, map, ap, ◌∙◌}
 use Rattle.ql_value.specs.declared.value.Value.{Value}
 use Rattle.ql_rel.specs.Changes.{changed_at, with_values}
 use Rattle.ql_mem_rel.proofs.TableLemmas.{hold_as, hold_rise, db_changed, holds_values}

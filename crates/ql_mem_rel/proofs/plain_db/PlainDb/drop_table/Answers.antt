@@ -1,7 +1,6 @@
 use Rattle.std.proofs.Common.{◌≡◌, ◌≤◌, length, vec_len, filter, List, get_or, sym, ap, subst, ◌∙◌, rules}
 use Rattle.ql_rel.specs.declared.schema.Index.{Index}
-use Rattle.ql_rel.specs.Changes.{table_dropped, is_of_other}
-use Rattle.ql_mem_rel.specs.Kept.{db_of}
+use Rattle.ql_rel.specs.Changes.{is_of_other}
 use Rattle.ql_mem_rel.specs.PlainDbs.{Hold, db_with}
 use Rattle.ql_mem_rel.proofs.SchemaLemmas.{hold_dropped, within_dropped, db_dropped_as, id_begun}
 use Rattle.ql_mem_rel.proofs.TableLemmas.{hold_length}

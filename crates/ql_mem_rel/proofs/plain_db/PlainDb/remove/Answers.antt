@@ -1,4 +1,4 @@
-use Rattle.std.proofs.Common.{◌≡◌, List, map, filter, find, sym, ap, ◌∙◌}
+use Rattle.std.proofs.Common.{filter, ◌∙◌}
 use Rattle.ql_rel.specs.Changes.{is_other}
 use Rattle.ql_mem_rel.proofs.TableLemmas.{hold_as, hold_rise, db_changed, holds_filter}
 use Rattle.ql_mem_rel.proofs.plain_db.PlainDb.remove.Goals as goal

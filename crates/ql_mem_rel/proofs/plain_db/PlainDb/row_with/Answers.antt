@@ -1,4 +1,4 @@
-use Rattle.std.proofs.Common.{◌≡◌, List, map, filter, find, sym, ap, ◌∙◌}
+use Rattle.std.proofs.Common.{List, find, sym, ap, ◌∙◌}
 use Rattle.ql_rel.specs.declared.db.Row.{Row}
 use Rattle.ql_rel.specs.Rels.{has_id}
 use Rattle.ql_mem_rel.proofs.TableLemmas.{kept_at, rows_kept, found_fits, found_id}

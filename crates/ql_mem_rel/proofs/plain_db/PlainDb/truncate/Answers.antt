@@ -1,4 +1,4 @@
-use Rattle.std.proofs.Common.{◌≡◌, List, map, filter, find, sym, ap, ◌∙◌}
+use Rattle.std.proofs.Common.{◌∙◌}
 use Rattle.ql_rel.specs.Changes.{no_rows}
 use Rattle.ql_mem_rel.proofs.TableLemmas.{hold_as, db_changed, holds_none}
 use Rattle.ql_mem_rel.proofs.plain_db.PlainDb.truncate.Goals as goal

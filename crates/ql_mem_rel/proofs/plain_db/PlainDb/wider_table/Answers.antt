@@ -1,7 +1,6 @@
-use Rattle.std.proofs.Common.{◌≡◌, List, map, sym, ap, ◌∙◌}
+use Rattle.std.proofs.Common.{List, map, sym, ap, ◌∙◌}
 use Rattle.ql_syntax.specs.declared.statement.ColumnDef.{ColumnDef}
 use Rattle.ql_rel.specs.declared.db.Row.{Row}
-use Rattle.ql_mem_rel.specs.declared.row_list.RowList.{RowList}
 use Rattle.ql_rel.specs.Changes.{with_null}
 use Rattle.ql_rel.specs.Limits.{is_past_added}
 use Rattle.ql_mem_rel.proofs.ColumnLemmas.{column_exit, column_later, column_after, columns_there}

@@ -1,4 +1,4 @@
-use Rattle.std.proofs.Common.{◌≡◌, ◌<◌, length, vec_len, ◌∙◌, sym, rules, arith}
+use Rattle.std.proofs.Common.{◌≡◌, ◌<◌, length, vec_len, sym, rules, arith}
 use Rattle.ql_mem_rel.proofs.PlaceLemmas.{kept_values, changed_row, place_within}
 use Rattle.ql_mem_rel.proofs.row_list.RowList.change.Goals as goal
 

@@ -1,8 +1,7 @@
-use Rattle.std.proofs.Common.{◌≡◌, ℕ, List, Option, Some, None, slice_get, ◌∙◌, sym, arith}
+use Rattle.std.proofs.Common.{◌≡◌, slice_get, ◌∙◌, arith}
 use Rattle.std.proofs.lemmas.Grind.{common_steps}
 use Rattle.std.proofs.lemmas.Option.{gets}
 use Rattle.std.specs.Option.{option_copied}
-use Rattle.ql_rel.specs.declared.db.Row.{Row}
 use Rattle.ql_mem_rel.proofs.PlaceLemmas.{found_as}
 use Rattle.ql_mem_rel.proofs.row_list.RowList.first_after.Goals as goal
 

@@ -1,4 +1,4 @@
-use Rattle.std.proofs.Common.{◌≡◌, ℕ, List, ◌∙◌, ap, rules}
+use Rattle.std.proofs.Common.{◌≡◌, List, ◌∙◌, ap, rules}
 use Rattle.std.proofs.lemmas.List.Sorted.{IsPartitionPoint-from_clause}
 use Rattle.ql_rel.specs.declared.db.Row.{Row}
 use Rattle.ql_mem_rel.specs.Places.{place_after, is_until}

@@ -1,8 +1,7 @@
-use Rattle.std.proofs.Common.{◌≡◌, ℕ, List, Option, Some, None, slice_get, ◌∙◌, sym, arith}
+use Rattle.std.proofs.Common.{◌≡◌, slice_get, ◌∙◌, sym, arith}
 use Rattle.std.proofs.lemmas.Grind.{common_steps}
 use Rattle.std.proofs.lemmas.Option.{gets}
 use Rattle.std.specs.Option.{option_copied}
-use Rattle.ql_rel.specs.declared.db.Row.{Row}
 use Rattle.ql_mem_rel.proofs.PlaceLemmas.{with_as, found_nowhere}
 use Rattle.ql_mem_rel.proofs.row_list.RowList.with_id.Goals as goal
 
