@@ -1,5 +1,5 @@
-//! Fills two trees with as many pairs as its word says, looks each key up and passes over all, and says what it did. The
-//! microseconds that each took go to standard error.
+//! Fills two trees with as many pairs as its word says, looks each key up, passes over all, and reads as many nodes at random,
+//! and says what it did. The microseconds that each took go to standard error.
 #![tactic(auto)]
 
 ghost use Rattle.std.specs.Prelude.{◌≡◌, ◌≤◌, length, true, IsTrue, IfOk, OnOk};
@@ -93,6 +93,21 @@ fn passed<H: Heap>(alloc: Global, heap: &mut H, tree: Tree) -> Result<u64, Troub
     Ok(u64::MAX)
 }
 
+/// How many of so many nodes at random handles are read. A leaf has 32 pairs at most, so there are that many handles.
+fn read<H: Heap>(alloc: Global, heap: &mut H, count: u64) -> Result<u64, Trouble>
+    requires { IsTrue (H.is_ready heap.old) }
+{
+    let nodes = (count / 32).max(1);
+    let mut node = Bytes::new(alloc);
+    let mut read: u64 = 0;
+    for turn in 0..count {
+        let handle = (mixed(turn) % nodes).saturating_add(8);
+        heap.read(handle, &mut node)?;
+        read = read.saturating_add(1);
+    }
+    Ok(read)
+}
+
 /// The number that the first word says.
 fn count_asked(rt: &HostRuntime) -> io::Result<u64> {
     let word = env::args(rt)?.skip(1).next();
@@ -130,6 +145,9 @@ fn main(rt: HostRuntime) -> io::Result<()> {
     let start = Instant::now(&rt)?;
     let passed = passed(alloc, &mut heap, tree).unwrap_or(0);
     let pass = start.elapsed(&rt)?.as_micros();
-    println!(rt; "{of_rising} and {levels} levels, {found} found, {passed} passed")?;
-    eprintln!(rt; "{rising} {random} {gets} {pass} us")
+    let start = Instant::now(&rt)?;
+    let read = read(alloc, &mut heap, count).unwrap_or(0);
+    let reads = start.elapsed(&rt)?.as_micros();
+    println!(rt; "{of_rising} and {levels} levels, {found} found, {passed} passed, {read} read")?;
+    eprintln!(rt; "{rising} {random} {gets} {pass} {reads} us")
 }

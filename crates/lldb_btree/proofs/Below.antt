@@ -9,6 +9,7 @@ use Rattle.lldb_btree.specs.declared.bound.Bound.TheVariants.{From}
 use Rattle.lldb_btree.specs.declared.node.Child.{Child}
 use Rattle.lldb_btree.specs.declared.node.Node.TheVariants.{Leaf, Inner}
 use Rattle.lldb_btree.specs.declared.node.Pair.{Pair}
+use Rattle.lldb_btree.specs.declared.set.Changed.{Changed}
 use Rattle.lldb_btree.specs.Bounds.{is_ahead}
 use Rattle.lldb_btree.specs.Changes.{Becomes, CanEdit, IsEdited, CanStore, IsStored}
 use Rattle.lldb_btree.specs.Footprints.{times}
@@ -19,7 +20,8 @@ use Rattle.lldb_btree.specs.Splicing.{AreNode, IsWay}
 use Rattle.lldb_btree.specs.Trees.{Part, greatest, child_of, pairs_of, footprint_of, IsNode, IsOver}
 use Rattle.lldb_btree.proofs.Ahead.{ahead_falls, none_pass, rises_left, rises_right}
 use Rattle.lldb_btree.proofs.Edited.{times_append}
-use Rattle.lldb_btree.proofs.Inserts.{insert_past, insert_within, insert_fits}
+use Rattle.lldb_btree.proofs.Ends.{part_ends}
+use Rattle.lldb_btree.proofs.Inserts.{insert_past, insert_within, insert_fits, insert_count}
 use Rattle.lldb_btree.proofs.Lengths.{are_node, entries_count}
 use Rattle.lldb_btree.proofs.Parents.{pairs_both, children_both, counts}
 use Rattle.lldb_btree.proofs.Runs.{Runs, runs}
@@ -71,15 +73,21 @@ as_inner told handle room bytes rest leaf n got head m d least p e =
 pub clash : {X : Type 0} (leaf : Bool) → leaf ≡ true → leaf ≡ false → X
 clash leaf a b = let e : true ≡ false = sym a ∙ b in absurd (cc (e))
 
-if_ok : (P Q : List ℕ → Type 0) (r : Result (List ℕ) Trouble) → ((x : List ℕ) → P x → Q x) → IfOk r P → IfOk r Q
+if_ok : (P Q : Changed → Type 0) (r : Result Changed Trouble) → ((x : Changed) → P x → Q x) → IfOk r P → IfOk r Q
 if_ok P Q (Ok x) f p = f x p
 if_ok P Q (Err e) f p = tt
 
-pub leaf_edited : (told now : Option Contents) (handle room : ℕ) (bytes rest : List ℕ) (leaf : Bool) (n : ℕ) (k v : List ℕ) (r : Result (List ℕ) Trouble) → Got told handle bytes → HeadRead bytes leaf n rest → leaf ≡ true → now ≡ told → ((pairs : List Pair) → AllByRecursion FitsPair pairs → length pairs ≡ n → rest ≡ body (map pair_entry pairs) → IfOk r (λ all. all ≡ spelling (Leaf (insert k v pairs)))) → (m : Contents) (d least : ℕ) (p : Part) → CanEdit told m d least p handle room → IfOk r (λ all. IsEdited now m d least p (insert k v p.pairs) all)
+pub leaf_edited : (told now : Option Contents) (handle room : ℕ) (bytes rest : List ℕ) (leaf : Bool) (n : ℕ) (k v : List ℕ) (r : Result Changed Trouble) → Got told handle bytes → HeadRead bytes leaf n rest → leaf ≡ true → now ≡ told → ((pairs : List Pair) → AllByRecursion FitsPair pairs → length pairs ≡ n → rest ≡ body (map pair_entry pairs) → IfOk r (λ c. c.node ≡ spelling (Leaf (insert k v pairs)))) → (m : Contents) (d least : ℕ) (p : Part) → CanEdit told m d least p handle room → IfOk r (λ c. IsEdited now m d least p (insert k v p.pairs) c.node)
 leaf_edited told now handle room bytes rest leaf n k v r got head on same set m zero least p e =
     let a = as_leaf told handle room bytes rest leaf n got head m least p e in
-    if_ok (λ all. all ≡ spelling (Leaf (insert k v p.pairs))) (λ all. IsEdited now m zero least p (insert k v p.pairs) all) r (λ all is. leaf_set told now m least handle room p k v all e same is) (set p.pairs a.1.0 a.1.1 a.1.2)
+    if_ok (λ c. c.node ≡ spelling (Leaf (insert k v p.pairs))) (λ c. IsEdited now m zero least p (insert k v p.pairs) c.node) r (λ c is. leaf_set told now m least handle room p k v c.node e same is) (set p.pairs a.1.0 a.1.1 a.1.2)
 leaf_edited told now handle room bytes rest leaf n k v r got head on same set m (suc d) least p e = clash leaf on (as_inner told handle room bytes rest leaf n got head m d least p e).0
+
+pub leaf_ended : (told : Option Contents) (handle room : ℕ) (bytes rest : List ℕ) (leaf : Bool) (n : ℕ) (k v : List ℕ) (r : Result Changed Trouble) → Got told handle bytes → HeadRead bytes leaf n rest → leaf ≡ true → ((pairs : List Pair) → AllByRecursion FitsPair pairs → length pairs ≡ n → rest ≡ body (map pair_entry pairs) → IfOk r (λ c. c.ends ≡ true → greatest (insert k v pairs) ≡ k)) → (m : Contents) (d least : ℕ) (p : Part) → CanEdit told m d least p handle room → IfOk r (λ c. c.ends ≡ true → greatest (insert k v p.pairs) ≡ k)
+leaf_ended told handle room bytes rest leaf n k v r got head on ends m zero least p e =
+    let a = as_leaf told handle room bytes rest leaf n got head m least p e in
+    ends p.pairs a.1.0 a.1.1 a.1.2
+leaf_ended told handle room bytes rest leaf n k v r got head on ends m (suc d) least p e = clash leaf on (as_inner told handle room bytes rest leaf n got head m d least p e).0
 
 pub leaf_refused : (told : Option Contents) (handle room : ℕ) (bytes rest : List ℕ) (leaf : Bool) (n : ℕ) → Got told handle bytes → HeadRead bytes leaf n rest → leaf ≡ true → ((pairs : List Pair) → AllByRecursion FitsPair pairs → length pairs ≡ n → rest ≡ body (map pair_entry pairs) → ⊥) → NoEdit told handle room
 leaf_refused told handle room bytes rest leaf n got head on none m zero least p e =
@@ -164,6 +172,7 @@ pub record Goes (read : Option Contents) (m : Contents) (d least room many : ℕ
   pub one_more : d ≡ suc low
   pub q : Part
   pub edit : CanEdit read m low 16 q child (room - 1)
+  pub ends : (v : List ℕ) → back ≡ [] → greatest (insert k v p.pairs) ≡ greatest (insert k v q.pairs)
   pub up : (v : List ℕ) (now : Option Contents) (new : Contents) (cs : List Child) (out all : List ℕ) (n : ℕ) → Becomes m new low (suc low) q.footprint cs (insert k v q.pairs) → now ≡ Some new → 1 ≤ length cs → length cs ≤ 2 → out ≡ body (map child_entry cs) → n + 1 ≡ many + length cs → all ≡ 1 ∷ n ∷ ((front ++ out) ++ back) → IsEdited now m d least p (insert k v p.pairs) all
 
 -- the same below each node that may stand at a handle
@@ -184,6 +193,7 @@ goes told read handle room bytes rest leaf n k front back child got head off way
       one_more = refl;
       q = u.q;
       edit = edit_kept told read m d 16 child (room - 1) u.q same u.edit;
+      ends = λ v none. part_ends u.l u.r (insert k v p.pairs) (insert k v u.q.pairs) back (ap (insert k v) e.walk.stands.over.all ∙ u.inserted v) (omega (arith, (insert_count k v u.q.pairs).0, some_pairs m d u.q u.edit.walk.stands)) u.back_is none;
       up = λ v now new cs out all k2 b is low high out_is many all_is.
           inner_set told now m new d least handle room p k v e u.l u.q u.r cs u.whole b is (u.inserted v) low high all
           (inner_spelled u.l cs u.r k2 front out back all u.front_is out_is u.back_is
@@ -194,6 +204,19 @@ goes told read handle room bytes rest leaf n k front back child got head off way
 -- the child was changed in memory
 abbrev pub BelowSet : Option Contents → Option Contents → ℕ → ℕ → List ℕ → List ℕ → List ℕ → Type 0
 BelowSet read now child room k v node = (m : Contents) (d least : ℕ) (p : Part) → CanEdit read m d least p child room → IsEdited now m d least p (insert k v p.pairs) node
+
+-- the key is the last one below the child
+abbrev pub BelowEnds : Option Contents → ℕ → ℕ → List ℕ → List ℕ → Bool → Type 0
+BelowEnds read child room k v ends = (m : Contents) (d least : ℕ) (p : Part) → CanEdit read m d least p child room → ends ≡ true → greatest (insert k v p.pairs) ≡ k
+
+pub inner_ended : (told read : Option Contents) (handle room n : ℕ) (k v front back : List ℕ) (child : ℕ) (below ends : Bool) → AllGo told read handle room n k front back child → BelowEnds read child (room - 1) k v below → (ends ≡ true → (below ≡ true) × (back ≡ [])) → (m : Contents) (d least : ℕ) (p : Part) → CanEdit told m d least p handle room → ends ≡ true → greatest (insert k v p.pairs) ≡ k
+inner_ended told read handle room n k v front back child below ends go last both m d least p e on =
+    let g = go m d least p e in
+    g.ends v (both on).1 ∙ last m g.low 16 g.q g.edit (both on).0
+
+-- what stands where a child was stored
+abbrev pub StoredBelow : Option Contents → Option Contents → ℕ → List ℕ → Bool → ℕ → List ℕ → List ℕ → Type 0
+StoredBelow mid now child k ends found out node = (m : Contents) (d : ℕ) (pairs : List Pair) (under : List ℕ) → CanStore mid m d child node pairs under → (ends ≡ true → k ≡ greatest pairs) → IsStored now m d (child ∷ under) pairs found out
 
 pub below_refused : (told read : Option Contents) (handle room n : ℕ) (k front back : List ℕ) (child : ℕ) → AllGo told read handle room n k front back child → NoEdit read child (room - 1) → NoEdit told handle room
 below_refused told read handle room n k front back child go none m d least p e =
@@ -218,11 +241,11 @@ store_refused told read now handle room n k v front back node child key value go
 becomes_here : (old new : Contents) (d more h child : ℕ) (under : List ℕ) (cs : List Child) (pairs : List Pair) → h ≡ child → Becomes old new d more (child ∷ under) cs pairs → Becomes old new d more (h ∷ under) cs pairs
 becomes_here old new d more h child under cs pairs same b = rw same b
 
-pub inner_edited : (told read mid now : Option Contents) (handle room many : ℕ) (k v front back node out all : List ℕ) (child found n : ℕ) → length k ≤ 1100 → length v ≤ 16 → AllGo told read handle room many k front back child → BelowSet read mid child (room - 1) k v node → ((m : Contents) (d : ℕ) (pairs : List Pair) (under : List ℕ) → CanStore mid m d child node pairs under → IsStored now m d (child ∷ under) pairs found out) → (1 ≤ found) × (found ≤ 2) → n + 1 ≡ many + found → all ≡ 1 ∷ n ∷ ((front ++ out) ++ back) → (m : Contents) (d least : ℕ) (p : Part) → CanEdit told m d least p handle room → IsEdited now m d least p (insert k v p.pairs) all
-inner_edited told read mid now handle room many k v front back node out all child found n key value go below store few count_is all_is m d least p e =
+pub inner_edited : (told read mid now : Option Contents) (handle room many : ℕ) (k v front back node out all : List ℕ) (child found n : ℕ) (ends : Bool) → length k ≤ 1100 → length v ≤ 16 → AllGo told read handle room many k front back child → BelowSet read mid child (room - 1) k v node → BelowEnds read child (room - 1) k v ends → StoredBelow mid now child k ends found out node → (1 ≤ found) × (found ≤ 2) → n + 1 ≡ many + found → all ≡ 1 ∷ n ∷ ((front ++ out) ++ back) → (m : Contents) (d least : ℕ) (p : Part) → CanEdit told m d least p handle room → IsEdited now m d least p (insert k v p.pairs) all
+inner_edited told read mid now handle room many k v front back node out all child found n ends key value go below last store few count_is all_is m d least p e =
     let g = go m d least p e in
     let i = below m g.low 16 g.q g.edit in
-    let s = store i.new g.low (insert k v g.q.pairs) i.lifts.under (storable read mid m g.low child (room - 1) g.q k v node key value g.edit i) in
+    let s = store i.new g.low (insert k v g.q.pairs) i.lifts.under (storable read mid m g.low child (room - 1) g.q k v node key value g.edit i) (λ on. sym (last m g.low 16 g.q g.edit on)) in
     let b : Becomes i.new s.new g.low 1 (g.q.handle ∷ i.lifts.under) s.children (insert k v g.q.pairs) = becomes_here i.new s.new g.low 1 g.q.handle child i.lifts.under s.children (insert k v g.q.pairs) g.edit.walk.here s.becomes in
     let whole : Becomes m s.new g.low (suc g.low) g.q.footprint s.children (insert k v g.q.pairs) = then_stored m i.new s.new g.low g.low g.q.handle g.q.footprint i.node (insert k v g.q.pairs) s.children i.lifts b in
     g.up v now s.new s.children out all n whole s.told (omega (arith, few.0, s.counted)) (omega (arith, few.1, s.counted)) s.spelled (omega (arith, count_is, s.counted)) all_is

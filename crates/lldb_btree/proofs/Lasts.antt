@@ -10,13 +10,13 @@ use Rattle.lldb_btree.specs.Trees.{Part, greatest, child_of, pairs_of, IsNode, I
 use Rattle.lldb_btree.proofs.Standing.{all_weaker}
 use Rattle.lldb_btree.proofs.Walking.{some_pairs}
 
-greatest_append : (xs ys : List Pair) → 0 < length ys → greatest (xs ++ ys) ≡ greatest ys
+pub greatest_append : (xs ys : List Pair) → 0 < length ys → greatest (xs ++ ys) ≡ greatest ys
 greatest_append [] ys some = refl
 greatest_append (x ∷ []) [] some = absurd (omega (arith, some))
 greatest_append (x ∷ []) (y ∷ ys) some = refl
 greatest_append (x ∷ z ∷ xs) ys some = greatest_append (z ∷ xs) ys some
 
-key_of_pairs : (ps : List Pair) → key_at_end (map pair_entry ps) ≡ greatest ps
+pub key_of_pairs : (ps : List Pair) → key_at_end (map pair_entry ps) ≡ greatest ps
 key_of_pairs [] = refl
 key_of_pairs (p ∷ []) = refl
 key_of_pairs (p ∷ q ∷ ps) = key_of_pairs (q ∷ ps)

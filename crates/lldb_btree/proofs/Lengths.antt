@@ -19,6 +19,17 @@ entry_long leaf e i =
     let two : length (to_be_bytes w16 (length e.key)) ≡ 2 = refl in
     omega (arith, two, length-append (to_be_bytes w16 (length e.key)) (e.key ++ e.tail), length-append e.key e.tail, i.key, tail_long leaf e.tail i.tail)
 
+entry_some : (e : Entry) → 2 ≤ length (entry_bytes e)
+unfolding entry_bytes
+entry_some e =
+    let two : length (to_be_bytes w16 (length e.key)) ≡ 2 = refl in
+    omega (arith, two, length-append (to_be_bytes w16 (length e.key)) (e.key ++ e.tail))
+
+-- entries without a byte are none
+pub body_none : (es : List Entry) → body es ≡ [] → es ≡ []
+body_none [] is = refl
+body_none (e ∷ es) is = absurd (omega (arith, entry_some e, length-append (entry_bytes e) (body es), ap length is))
+
 pub body_long : (leaf : Bool) (es : List Entry) → AllByRecursion (IsEntry leaf) es → length (body es) ≤ 1119 * length es
 body_long leaf [] a = omega arith
 body_long leaf (e ∷ es) a = omega (arith, entry_long leaf e a.0, body_long leaf es a.1, length-append (entry_bytes e) (body es))

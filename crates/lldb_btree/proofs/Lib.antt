@@ -32,3 +32,4 @@ pub mod Rooted
 pub mod FromRoot
 pub mod Full
 pub mod Past
+pub mod Ends

@@ -1,5 +1,5 @@
 -- What stands after the bytes of a node were stored below another, or as a root.
-use Rattle.std.proofs.Common.{◌≡◌, ⊎_elim, ℕ, suc, ◌+◌, ◌*◌, ◌/◌, ◌^◌, ◌<◌, ◌≤◌, Bool, false, List, [], ◌∷◌, ◌++◌, length, take, drop, Option, Some, None, IfSome, refl, sym, ap, ◌∙◌, arith, length-append, append-nil}
+use Rattle.std.proofs.Common.{◌≡◌, ⊎_elim, ℕ, suc, ◌+◌, ◌*◌, ◌/◌, ◌^◌, ◌<◌, ◌≤◌, Bool, true, false, List, [], ◌∷◌, ◌++◌, length, take, drop, Option, Some, None, IfSome, refl, sym, ap, ◌∙◌, arith, length-append, append-nil}
 use Rattle.std.specs.List.{AllByRecursion}
 use Rattle.std.proofs.lemmas.Bool.{cases_eq}
 use Rattle.lldb_base.specs.Contents.{Contents, content_of, with_content}
@@ -12,10 +12,11 @@ use Rattle.lldb_btree.specs.Footprints.{times, unless, Edits}
 use Rattle.lldb_btree.specs.Nodes.{Entry, IsEntry, count, is_leaf, entries, spelling, entry_bytes, body, child_entry, Fits}
 use Rattle.lldb_btree.specs.Pairs.{FitsPair, IsSorted}
 use Rattle.lldb_btree.specs.Reading.{mark}
-use Rattle.lldb_btree.specs.Splicing.{AreNode, AreNoNode, entry_of}
-use Rattle.lldb_btree.specs.Trees.{child_of, IsNode, IsOver, HoldsTree, least_of}
+use Rattle.lldb_btree.specs.Splicing.{AreNode, AreNoNode, entry_of, key_at_end}
+use Rattle.lldb_btree.specs.Trees.{child_of, greatest, IsNode, IsOver, HoldsTree, least_of}
 use Rattle.lldb_btree.proofs.Cuts.{Cut, over_cut}
 use Rattle.lldb_btree.proofs.Edited.{Live, times_append, times_here, times_there, edits_then, edits_in, edit_put}
+use Rattle.lldb_btree.proofs.Lasts.{last_key_is}
 use Rattle.lldb_btree.proofs.Lengths.{are_node, entries_count, spelled_by, spelled_short, body_long}
 use Rattle.lldb_btree.proofs.Moved.{over_live, over_moved, node_moved}
 use Rattle.lldb_btree.proofs.Puts.{put_same, put_apart, edit_create}
@@ -90,10 +91,10 @@ halved m d node pairs under bytes front back over fits is low high fh bh =
 abbrev pub TwoOf : List ℕ → ℕ → List ℕ → ℕ → List ℕ → Type 0
 TwoOf front h back more out = (leaf : Bool) (es fs : List Entry) → AreNode leaf es front → 0 < length es → AreNode leaf fs back → 0 < length fs → out ≡ body (entry_of es h ∷ entry_of fs more ∷ [])
 
-pub one_child : (told now : Option Contents) (m : Contents) (d h : ℕ) (bytes : List ℕ) (pairs : List Pair) (under out : List ℕ) (s : CanStore told m d h bytes pairs under) → count s.node ≤ 32 → IfSome told (λ map. IfSome (content_of h map) (λ _. now ≡ Some (with_content h bytes map))) → ((leaf : Bool) (es : List Entry) → AreNode leaf es bytes → 0 < length es → out ≡ entry_bytes (entry_of es h)) → IsStored now m d (h ∷ under) pairs 1 out
-one_child told now m d h bytes pairs under out s few put pushed =
+pub one_child : (told now : Option Contents) (m : Contents) (d h : ℕ) (bytes : List ℕ) (pairs : List Pair) (under out : List ℕ) (s : CanStore told m d h bytes pairs under) → count s.node ≤ 32 → IfSome told (λ map. IfSome (content_of h map) (λ _. now ≡ Some (with_content h bytes map))) → (k : List ℕ) (ends : Bool) → (ends ≡ true → k ≡ greatest pairs) → ((leaf : Bool) (es : List Entry) → AreNode leaf es bytes → 0 < length es → (ends ≡ true → k ≡ key_at_end es) → out ≡ entry_bytes (entry_of es h)) → IsStored now m d (h ∷ under) pairs 1 out
+one_child told now m d h bytes pairs under out s few put k ends known pushed =
     let a : AreNode (is_leaf s.node) (entries s.node) bytes = are_node s.node bytes (over_fits m d s.node pairs under s.over s.fits) s.spelled in
-    stored_one told now m d h bytes pairs under 1 out s few (was_put told now h bytes s.live.0 m s.is s.live.1 put) refl (pushed (is_leaf s.node) (entries s.node) a (omega (arith, entries_count s.node, s.enough)))
+    stored_one told now m d h bytes pairs under 1 out s few (was_put told now h bytes s.live.0 m s.is s.live.1 put) refl (pushed (is_leaf s.node) (entries s.node) a (omega (arith, entries_count s.node, s.enough)) (λ on. known on ∙ sym (last_key_is m d s.node pairs under s.over)))
 
 pub one_unsaved : (told : Option Contents) (m : Contents) (d h : ℕ) (bytes : List ℕ) (pairs : List Pair) (under : List ℕ) (s : CanStore told m d h bytes pairs under) → count s.node ≤ 32 → (length bytes ≤ 35810 → MayBeDead h told) → ⊥
 one_unsaved told m d h bytes pairs under s few dead = not_dead told h s.live.0 m s.is s.live.1 (dead (spelled_short s.node bytes (over_fits m d s.node pairs under s.over s.fits) few s.spelled))

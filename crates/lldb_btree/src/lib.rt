@@ -20,6 +20,3 @@ pub use decode::{KEY_LIMIT, NODE_LIMIT, read_node};
 pub use laws::{node_laws, tree_laws};
 pub use node::{Child, Children, Node, NodeFault, Pair, Pairs};
 pub use tree::Tree;
-
-#[cfg(test)]
-mod tests;

@@ -10,7 +10,7 @@ ghost use Rattle.lldb_btree.specs.Frames.{KeepsLevels};
 ghost use Rattle.lldb_btree.specs.Nodes.{Entry, IsEntry, spelling, body, entry_bytes, pair_entry, child_entry, FitsChild};
 ghost use Rattle.lldb_btree.specs.Pairs.{FitsPair, insert};
 ghost use Rattle.lldb_btree.specs.Splicing.{past_key, IsWay, IsFullFor};
-ghost use Rattle.lldb_btree.specs.Trees.{Part};
+ghost use Rattle.lldb_btree.specs.Trees.{Part, greatest};
 ghost use Rattle.lldb_btree.specs.declared.bound.Bound.TheVariants as bound;
 ghost use Rattle.lldb_btree.specs.declared.node.Child as child;
 ghost use Rattle.lldb_btree.specs.declared.node.Node.TheVariants as node;
@@ -62,6 +62,20 @@ impl Put {
     }
 }
 
+/// What a set makes of a node: its bytes, and whether the key that was set is the last one in it.
+#[derive(Drop)]
+pub(crate) struct Changed {
+    pub(crate) node: Bytes,
+    pub(crate) ends: bool,
+}
+
+/// Whether a key that ends a run is the last one of a node, which has these bytes behind the run.
+fn is_last(ends: bool, back: &[u8]) -> bool
+    ensures { result ≡ true → (ends ≡ true) × (back.now ≡ []) }
+{
+    ends && back.is_empty()
+}
+
 /// What follows the first of so many entries where it has the key, and how many entries a pair with the key adds.
 fn past_key<'a>(left: usize, bytes: &'a [u8], key: &[u8]) -> Option<(&'a [u8], usize)>
     ensures most { IfSome result (λ r. r.1 ≤ 1) }
@@ -81,11 +95,14 @@ fn past_key<'a>(left: usize, bytes: &'a [u8], key: &[u8]) -> Option<(&'a [u8], u
 }
 
 /// A leaf of so many pairs with one set.
-fn set_in_leaf(alloc: Global, count: usize, bytes: &[u8], put: &Put) -> Result<Bytes, Trouble>
+fn set_in_leaf(alloc: Global, count: usize, bytes: &[u8], put: &Put) -> Result<Changed, Trouble>
     requires { count ≤ 32 }
     ensures set { (pairs : List pair.Pair) → AllByRecursion FitsPair pairs → length pairs ≡ count
-        → bytes.now ≡ body (map pair_entry pairs) → IfOk result (λ all. all ≡ spelling
+        → bytes.now ≡ body (map pair_entry pairs) → IfOk result (λ c. c.node ≡ spelling
         (node.Leaf (insert put.now.key put.now.value pairs))) }
+    ensures ends { (pairs : List pair.Pair) → AllByRecursion FitsPair pairs → length pairs ≡ count
+        → bytes.now ≡ body (map pair_entry pairs) → IfOk result (λ c. c.ends ≡ true → greatest
+        (insert put.now.key put.now.value pairs) ≡ put.now.key) }
     ensures refuses { Refuses (λ _ _. ⊥) ((pairs : List pair.Pair) → AllByRecursion FitsPair pairs
         → length pairs ≡ count → bytes.now ≡ body (map pair_entry pairs) → ⊥) result }
     ensures cause { (n : ℕ) → IsCausedTrouble result n n }
@@ -97,8 +114,9 @@ fn set_in_leaf(alloc: Global, count: usize, bytes: &[u8], put: &Put) -> Result<B
         return Err(Trouble::Damaged);
     };
     let front = front_of(bytes, rest.len());
-    let all = joined(alloc, true, count + more, front, put.entry.as_slice(), back)?;
-    Ok(all)
+    let node = joined(alloc, true, count + more, front, put.entry.as_slice(), back)?;
+    let ends = is_last(true, back);
+    Ok(Changed { node, ends })
 }
 
 /// The handle of the child where a search goes on, with the bytes before its entry and behind it.
@@ -113,20 +131,23 @@ fn way<'a>(bytes: &'a [u8], count: usize, from: &Bound) -> Option<(&'a [u8], u64
     Some((front_of(bytes, rest.len()), handle, back))
 }
 
-/// The bytes of the node that comes of the one at a handle where a pair is set below it, with room for so many levels. It
-/// is not written; what is below it is. It reads one node a level.
+/// What comes of the node at a handle where a pair is set below it, with room for so many levels. It is not written; what is
+/// below it is. It reads one node a level.
 pub(crate) fn set_below<H: Heap>(
     alloc: Global,
     heap: &mut H,
     handle: u64,
     room: u32,
     put: &Put,
-) -> Result<Bytes, Trouble>
+) -> Result<Changed, Trouble>
     requires ready { IsTrue (H.is_ready heap.old) }
     requires depth { 1 ≤ length (H.saved heap.old) }
     ensures set { (m : Contents) (d least : ℕ) (p : Part) → CanEdit (H.map_of heap.old) m d least p
-        handle room → IfOk result (λ bytes. IsEdited (H.map_of heap.new) m d least p
-        (insert put.now.key put.now.value p.pairs) bytes) }
+        handle room → IfOk result (λ c. IsEdited (H.map_of heap.new) m d least p
+        (insert put.now.key put.now.value p.pairs) c.node) }
+    ensures ends { (m : Contents) (d least : ℕ) (p : Part) → CanEdit (H.map_of heap.old) m d least p
+        handle room → IfOk result (λ c. c.ends ≡ true → greatest
+        (insert put.now.key put.now.value p.pairs) ≡ put.now.key) }
     ensures ready { OnOk result (H.is_ready heap.new ≡ true) }
     ensures refuses { Refuses (IsFullFor (H.limit_of heap.old) (H.size_of heap.new))
         ((m : Contents) (d least : ℕ) (p : Part) → CanEdit (H.map_of heap.old) m d least p handle
@@ -154,9 +175,16 @@ pub(crate) fn set_below<H: Heap>(
     let Some((front, child, back)) = way(bytes, count, &put.from) else {
         return Err(Trouble::Damaged);
     };
-    let node = set_below(alloc, heap, child, room - 1, put)?;
-    let stored = store(alloc, heap, child, node.as_slice())?;
-    let all = joined(
+    let below = set_below(alloc, heap, child, room - 1, put)?;
+    let stored = store(
+        alloc,
+        heap,
+        child,
+        below.node.as_slice(),
+        put.key.as_slice(),
+        below.ends,
+    )?;
+    let node = joined(
         alloc,
         false,
         count + stored.count - 1,
@@ -164,5 +192,6 @@ pub(crate) fn set_below<H: Heap>(
         stored.entries.as_slice(),
         back,
     )?;
-    Ok(all)
+    let ends = is_last(below.ends, back);
+    Ok(Changed { node, ends })
 }

@@ -1,5 +1,5 @@
 //! Runs of entries, cut and put together as bytes.
-ghost use Rattle.std.specs.Prelude.{◌≡◌, ℕ, ◌+◌, ◌-◌, ◌/◌, ◌<◌, ◌≤◌, Bool, List, [], ◌∷◌, ◌++◌, length, take, drop, IfOk, OnOk, IfSome, IsSomeAnd};
+ghost use Rattle.std.specs.Prelude.{◌≡◌, ℕ, ◌+◌, ◌-◌, ◌/◌, ◌<◌, ◌≤◌, Bool, true, List, [], ◌∷◌, ◌++◌, length, take, drop, IfOk, OnOk, IfSome, IsSomeAnd};
 ghost use Rattle.std.specs.List.{AllByRecursion};
 ghost use Rattle.lldb_base.specs.Trouble.{IsCausedTrouble, Refuses};
 ghost use Rattle.lldb_btree.specs.Nodes.{Entry, IsEntry, entry_bytes, body};
@@ -140,6 +140,29 @@ pub(crate) fn push_child(entries: &mut Bytes, node: &[u8], handle: u64) -> Resul
     };
     push_entry(entries, key, &handle.to_be_bytes())?;
     Ok(())
+}
+
+/// Adds the entry of a child, which has the bytes of a node. Where a key is known to be the last one of the node, it is not
+/// looked for there.
+pub(crate) fn push_last(
+    entries: &mut Bytes,
+    node: &[u8],
+    handle: u64,
+    key: &[u8],
+    ends: bool,
+) -> Result<(), Trouble>
+    requires { length key.now ≤ 1100 }
+    ensures pushed { (leaf : Bool) (es : List Entry) → AreNode leaf es node.now → 0 < length es
+        → (ends ≡ true → key.now ≡ key_at_end es)
+        → OnOk result (entries.new ≡ entries.old ++ entry_bytes (entry_of es handle)) }
+    ensures refuses { Refuses (λ _ _. ⊥) (AreNoNode node.now) result }
+    ensures cause { (n : ℕ) → IsCausedTrouble result n n }
+{
+    if ends {
+        push_entry(entries, key, &handle.to_be_bytes())?;
+        return Ok(());
+    }
+    push_child(entries, node, handle)
 }
 
 /// The entries of two children, which have the bytes of nodes.

@@ -7,18 +7,21 @@ ghost use Rattle.lldb_btree.specs.Changes.{CanStore, IsStored, CanRoot};
 ghost use Rattle.lldb_btree.specs.Frames.{KeepsLevels};
 ghost use Rattle.lldb_btree.specs.Nodes.{count};
 ghost use Rattle.lldb_btree.specs.Splicing.{IsFullFor};
-ghost use Rattle.lldb_btree.specs.Trees.{HoldsTree};
+ghost use Rattle.lldb_btree.specs.Trees.{HoldsTree, greatest};
 ghost use Rattle.lldb_btree.specs.declared.node.Pair as pair;
 
 use crate::NODE_LIMIT;
 use crate::look::split_head;
-use crate::splice::{cut_node, push_child, spelled, two_children};
+use crate::splice::{cut_node, push_last, spelled, two_children};
 use lldb_base::{Heap, Trouble};
 use ql_edge::Bytes;
 use std::alloc::Global;
 
 /// How many bytes a node has at most: 32 entries of a key of 1,100 bytes and a value of 16, behind two bytes.
 const NODE_BYTES: usize = 35_810;
+
+/// How much room there is at first for the entry of a child: most keys are short.
+const ENTRY_ROOM: usize = 64;
 
 /// Children that took the place of one: how many, and their entries.
 #[derive(Drop)]
@@ -103,18 +106,22 @@ fn store_two<H: Heap>(
     Ok(Stored { count: 2, entries })
 }
 
-/// Stores the bytes of a node at its handle.
+/// Stores the bytes of a node at its handle. `ends` says that a key is the last one of the node.
 fn store_one<H: Heap>(
     alloc: Global,
     heap: &mut H,
     handle: u64,
     node: &[u8],
+    key: &[u8],
+    ends: bool,
 ) -> Result<Stored, Trouble>
     requires ready { IsTrue (H.is_ready heap.old) }
     requires depth { 1 ≤ length (H.saved heap.old) }
+    requires key { length key.now ≤ 1100 }
     ensures few { IfOk result (λ s. (1 ≤ s.count) × (s.count ≤ 2)) }
     ensures stored { (m : Contents) (d : ℕ) (pairs : List pair.Pair) (under : List ℕ) → (c : CanStore
-        (H.map_of heap.old) m d handle node.now pairs under) → count c.node ≤ 32 → IfOk result
+        (H.map_of heap.old) m d handle node.now pairs under) → count c.node ≤ 32
+        → (ends ≡ true → key.now ≡ greatest pairs) → IfOk result
         (λ s. IsStored (H.map_of heap.new) m d (handle ∷ under) pairs s.count s.entries) }
     ensures ready { OnOk result (H.is_ready heap.new ≡ true) }
     ensures refuses { Refuses (IsFullFor (H.limit_of heap.old) (H.size_of heap.new))
@@ -125,24 +132,29 @@ fn store_one<H: Heap>(
         heap.old heap.new }
     ensures cause { IsCausedTrouble result (H.faults heap.old) (H.faults heap.new) }
 {
+    let mut entries = Bytes::with_capacity(alloc, ENTRY_ROOM)?;
     save(heap, handle, node)?;
-    let mut entries = Bytes::new(alloc);
-    push_child(&mut entries, node, handle)?;
+    push_last(&mut entries, node, handle, key, ends)?;
     Ok(Stored { count: 1, entries })
 }
 
-/// Stores the bytes of a node at its handle, and what is too much at a new one.
+/// Stores the bytes of a node at its handle, and what is too much at a new one. `ends` says that a key is the last one of the
+/// node.
 pub(crate) fn store<H: Heap>(
     alloc: Global,
     heap: &mut H,
     handle: u64,
     node: &[u8],
+    key: &[u8],
+    ends: bool,
 ) -> Result<Stored, Trouble>
     requires ready { IsTrue (H.is_ready heap.old) }
     requires depth { 1 ≤ length (H.saved heap.old) }
+    requires key { length key.now ≤ 1100 }
     ensures few { IfOk result (λ s. (1 ≤ s.count) × (s.count ≤ 2)) }
     ensures stored { (m : Contents) (d : ℕ) (pairs : List pair.Pair) (under : List ℕ) → CanStore
-        (H.map_of heap.old) m d handle node.now pairs under → IfOk result
+        (H.map_of heap.old) m d handle node.now pairs under
+        → (ends ≡ true → key.now ≡ greatest pairs) → IfOk result
         (λ s. IsStored (H.map_of heap.new) m d (handle ∷ under) pairs s.count s.entries) }
     ensures ready { OnOk result (H.is_ready heap.new ≡ true) }
     ensures refuses { Refuses (IsFullFor (H.limit_of heap.old) (H.size_of heap.new))
@@ -159,7 +171,7 @@ pub(crate) fn store<H: Heap>(
     if count > NODE_LIMIT {
         store_two(alloc, heap, handle, node)
     } else {
-        store_one(alloc, heap, handle, node)
+        store_one(alloc, heap, handle, node, key, ends)
     }
 }
 

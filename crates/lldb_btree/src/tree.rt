@@ -119,7 +119,7 @@ impl Tree {
     {
         let put = Put::new(alloc, key, value)?;
         let root = set_below(alloc, heap, self.handle, LEVELS, &put)?;
-        save_root(alloc, heap, self.handle, root.as_slice())
+        save_root(alloc, heap, self.handle, root.node.as_slice())
     }
 
     /// How many levels the tree has: 1 where its root is a leaf.

@@ -25,13 +25,15 @@ fn trouble_of(fault: NodeFault) -> Trouble
     Trouble::from(fault)
 }
 
-/// The first pair ahead of a bound under a handle, with room for so many levels. It reads one node a level.
+/// The first pair ahead of a bound under a handle, with room for so many levels. It reads one node a level, each into the same
+/// buffer.
 pub(crate) fn first_pair<H: Heap>(
     alloc: Global,
     heap: &mut H,
     handle: u64,
     room: u32,
     bound: &Bound,
+    node: &mut Bytes,
 ) -> Result<Option<Pair>, Trouble>
     requires { IsTrue (H.is_ready heap.old) }
     ensures found { (m : Contents) (d least : ℕ) (p : Part) → CanWalk (H.map_of heap.old) m d least
@@ -48,14 +50,13 @@ pub(crate) fn first_pair<H: Heap>(
     if room == 0 {
         return Err(Trouble::Damaged);
     }
-    let mut node = Bytes::new(alloc);
-    heap.read(handle, &mut node)?;
+    heap.read(handle, node)?;
     let found = match look(alloc, node.as_slice(), bound) {
         Ok(found) => found,
         Err(fault) => return Err(trouble_of(fault)),
     };
     match found {
-        Found::Down(child) => first_pair(alloc, heap, child, room - 1, bound),
+        Found::Down(child) => first_pair(alloc, heap, child, room - 1, bound, node),
         Found::Here(answer) => Ok(answer),
     }
 }
@@ -80,7 +81,8 @@ pub(crate) fn first_of_tree<H: Heap>(
         heap.old heap.new }
     ensures cause { IsCausedTrouble result (H.faults heap.old) (H.faults heap.new) }
 {
-    first_pair(alloc, heap, handle, LEVELS, bound)
+    let mut node = Bytes::new(alloc);
+    first_pair(alloc, heap, handle, LEVELS, bound, &mut node)
 }
 
 /// How many levels are under a handle, with room for so many. It reads one node a level.

@@ -1,8 +1,9 @@
 use Rattle.std.proofs.Common.{◌+◌, ◌-◌, ℕ, List, Option, sym, ◌∙◌, arith}
+use Rattle.lldb_btree.specs.declared.set.Changed.{Changed}
 use Rattle.lldb_btree.specs.declared.store.Stored.{Stored}
 use Rattle.lldb_btree.specs.Changes.{CanStore}
 use Rattle.lldb_btree.specs.Splicing.{IsFullFor}
-use Rattle.lldb_btree.proofs.Below.{NoEdit, WayRead, AllGo, BelowSet, headless, too_many, leaf_edited, leaf_refused, wayless, goes, below_refused, below_reads, store_refused, inner_edited}
+use Rattle.lldb_btree.proofs.Below.{NoEdit, WayRead, AllGo, BelowSet, leaf_ended, inner_ended, headless, too_many, leaf_edited, leaf_refused, wayless, goes, below_refused, below_reads, store_refused, inner_edited}
 use Rattle.lldb_btree.proofs.Full.{full_kept}
 use Rattle.lldb_btree.proofs.Splices.{refuses_then, refuses_last, caused_last, never}
 use Rattle.lldb_btree.proofs.Steps.{Got}
@@ -42,28 +43,28 @@ returns-in_default-way-clause-refuses g t c =
     let got : Got (g.H.Heap.map_of c.args.heap.now) c.args.handle c.as_slice.result.now = rw c.as_slice.ensures c.in_ok-read.ensures.read in
     wayless (g.H.Heap.map_of c.args.heap.now) c.args.handle c.args.room c.as_slice.result.now c.in-Some.bytes.now c.in-Some.leaf c.in-Some.count got c.in-Some.ensures.whole c.if-leaf.false c.in_default-way.ensures
 
-pub returns-in_err-node-clause-refuses : goal.returns-in_err-node-clause-refuses
-returns-in_err-node-clause-refuses g t c =
+pub returns-in_err-below-clause-refuses : goal.returns-in_err-below-clause-refuses
+returns-in_err-below-clause-refuses g t c =
     let got : Got (g.H.Heap.map_of c.args.heap.now) c.args.handle c.as_slice.result.now = rw c.as_slice.ensures c.in_ok-read.ensures.read in
     let on : WayRead c.args.put.now.key c.in-Some.bytes.now c.in-Some.count c.in-Some-way.front.now c.in-Some-way.child c.in-Some-way.back.now = rw (sym c.args.put.now.from_is) c.in-Some-way.ensures in
     let go : AllGo (g.H.Heap.map_of c.args.heap.now) (g.H.Heap.map_of c.read.new.self) c.args.handle c.args.room c.in-Some.count c.args.put.now.key c.in-Some-way.front.now c.in-Some-way.back.now c.in-Some-way.child = goes (g.H.Heap.map_of c.args.heap.now) (g.H.Heap.map_of c.read.new.self) c.args.handle c.args.room c.as_slice.result.now c.in-Some.bytes.now c.in-Some.leaf c.in-Some.count c.args.put.now.key c.in-Some-way.front.now c.in-Some-way.back.now c.in-Some-way.child got c.in-Some.ensures.whole c.if-leaf.false on c.read.ensures.map in
-    refuses_then (List ℕ) (List ℕ) (IsFullFor (g.H.Heap.limit_of c.read.new.self) (g.H.Heap.size_of c.set_below.new.heap)) (IsFullFor (g.H.Heap.limit_of c.args.heap.now) (g.H.Heap.size_of c.set_below.new.heap))
+    refuses_then Changed Changed (IsFullFor (g.H.Heap.limit_of c.read.new.self) (g.H.Heap.size_of c.set_below.new.heap)) (IsFullFor (g.H.Heap.limit_of c.args.heap.now) (g.H.Heap.size_of c.set_below.new.heap))
     (NoEdit (g.H.Heap.map_of c.read.new.self) c.in-Some-way.child (c.args.room - 1)) (NoEdit (g.H.Heap.map_of c.args.heap.now) c.args.handle c.args.room)
-    c.from_residual-in_err-node.result c.in_err-node.field-0.0 c.from_residual-in_err-node.ensures.1
+    c.from_residual-in_err-below.result c.in_err-below.field-0.0 c.from_residual-in_err-below.ensures.1
     (full_kept (g.H.Heap.limit_of c.read.new.self) (g.H.Heap.limit_of c.args.heap.now) (g.H.Heap.size_of c.set_below.new.heap) (sym c.read.ensures.limit))
     (below_refused (g.H.Heap.map_of c.args.heap.now) (g.H.Heap.map_of c.read.new.self) c.args.handle c.args.room c.in-Some.count c.args.put.now.key c.in-Some-way.front.now c.in-Some-way.back.now c.in-Some-way.child go)
-    c.in_err-node.ensures.refuses
+    c.in_err-below.ensures.refuses
 
 pub returns-clause-set : goal.returns-clause-set
 returns-clause-set g t c =
     let got : Got (g.H.Heap.map_of c.args.heap.now) c.args.handle c.as_slice.result.now = rw c.as_slice.ensures c.in_ok-read.ensures.read in
     let on : WayRead c.args.put.now.key c.in-Some.bytes.now c.in-Some.count c.in-Some-way.front.now c.in-Some-way.child c.in-Some-way.back.now = rw (sym c.args.put.now.from_is) c.in-Some-way.ensures in
     let go : AllGo (g.H.Heap.map_of c.args.heap.now) (g.H.Heap.map_of c.read.new.self) c.args.handle c.args.room c.in-Some.count c.args.put.now.key c.in-Some-way.front.now c.in-Some-way.back.now c.in-Some-way.child = goes (g.H.Heap.map_of c.args.heap.now) (g.H.Heap.map_of c.read.new.self) c.args.handle c.args.room c.as_slice.result.now c.in-Some.bytes.now c.in-Some.leaf c.in-Some.count c.args.put.now.key c.in-Some-way.front.now c.in-Some-way.back.now c.in-Some-way.child got c.in-Some.ensures.whole c.if-leaf.false on c.read.ensures.map in
-    let below : BelowSet (g.H.Heap.map_of c.read.new.self) (g.H.Heap.map_of c.set_below.new.heap) c.in-Some-way.child (c.args.room - 1) c.args.put.now.key c.args.put.now.value c.as_slice-2.result.now = rw c.as_slice-2.ensures c.in_ok-node.ensures.set in
-    inner_edited (g.H.Heap.map_of c.args.heap.now) (g.H.Heap.map_of c.read.new.self) (g.H.Heap.map_of c.set_below.new.heap) (g.H.Heap.map_of c.store.new.heap) c.args.handle c.args.room c.in-Some.count c.args.put.now.key c.args.put.now.value c.in-Some-way.front.now c.in-Some-way.back.now c.as_slice-2.result.now c.in_ok-stored.stored.entries c.in_ok-all.all c.in-Some-way.child c.in_ok-stored.stored.count (c.in-Some.count + c.in_ok-stored.stored.count - 1) c.args.put.now.key_fits c.args.put.now.value_fits go below c.in_ok-stored.ensures.stored c.in_ok-stored.ensures.few (omega (arith, c.in_ok-stored.ensures.few.0)) (rw c.as_slice-3.ensures at c.in_ok-all.ensures)
+    let below : BelowSet (g.H.Heap.map_of c.read.new.self) (g.H.Heap.map_of c.set_below.new.heap) c.in-Some-way.child (c.args.room - 1) c.args.put.now.key c.args.put.now.value c.as_slice-2.result.now = rw c.as_slice-2.ensures c.in_ok-below.ensures.set in
+    inner_edited (g.H.Heap.map_of c.args.heap.now) (g.H.Heap.map_of c.read.new.self) (g.H.Heap.map_of c.set_below.new.heap) (g.H.Heap.map_of c.store.new.heap) c.args.handle c.args.room c.in-Some.count c.args.put.now.key c.args.put.now.value c.in-Some-way.front.now c.in-Some-way.back.now c.as_slice-2.result.now c.in_ok-stored.stored.entries c.in_ok-node.node c.in-Some-way.child c.in_ok-stored.stored.count (c.in-Some.count + c.in_ok-stored.stored.count - 1) c.in_ok-below.below.ends c.args.put.now.key_fits c.args.put.now.value_fits go below c.in_ok-below.ensures.ends (rw c.as_slice-3.ensures at c.in_ok-stored.ensures.stored) c.in_ok-stored.ensures.few (omega (arith, c.in_ok-stored.ensures.few.0)) (rw c.as_slice-4.ensures at c.in_ok-node.ensures)
 
-pub returns-in_err-node-clause-reads : goal.returns-in_err-node-clause-reads
-returns-in_err-node-clause-reads g t c =
+pub returns-in_err-below-clause-reads : goal.returns-in_err-below-clause-reads
+returns-in_err-below-clause-reads g t c =
     let got : Got (g.H.Heap.map_of c.args.heap.now) c.args.handle c.as_slice.result.now = rw c.as_slice.ensures c.in_ok-read.ensures.read in
     let on : WayRead c.args.put.now.key c.in-Some.bytes.now c.in-Some.count c.in-Some-way.front.now c.in-Some-way.child c.in-Some-way.back.now = rw (sym c.args.put.now.from_is) c.in-Some-way.ensures in
     let go : AllGo (g.H.Heap.map_of c.args.heap.now) (g.H.Heap.map_of c.read.new.self) c.args.handle c.args.room c.in-Some.count c.args.put.now.key c.in-Some-way.front.now c.in-Some-way.back.now c.in-Some-way.child = goes (g.H.Heap.map_of c.args.heap.now) (g.H.Heap.map_of c.read.new.self) c.args.handle c.args.room c.as_slice.result.now c.in-Some.bytes.now c.in-Some.leaf c.in-Some.count c.args.put.now.key c.in-Some-way.front.now c.in-Some-way.back.now c.in-Some-way.child got c.in-Some.ensures.whole c.if-leaf.false on c.read.ensures.map in
@@ -76,8 +77,8 @@ returns-in_err-stored-clause-reads g t c =
     let go : AllGo (g.H.Heap.map_of c.args.heap.now) (g.H.Heap.map_of c.read.new.self) c.args.handle c.args.room c.in-Some.count c.args.put.now.key c.in-Some-way.front.now c.in-Some-way.back.now c.in-Some-way.child = goes (g.H.Heap.map_of c.args.heap.now) (g.H.Heap.map_of c.read.new.self) c.args.handle c.args.room c.as_slice.result.now c.in-Some.bytes.now c.in-Some.leaf c.in-Some.count c.args.put.now.key c.in-Some-way.front.now c.in-Some-way.back.now c.in-Some-way.child got c.in-Some.ensures.whole c.if-leaf.false on c.read.ensures.map in
     rw c.store.ensures.reads (below_reads (g.H.Heap.map_of c.args.heap.now) (g.H.Heap.map_of c.read.new.self) c.args.handle c.args.room c.in-Some.count c.args.put.now.key c.in-Some-way.front.now c.in-Some-way.back.now c.in-Some-way.child go (g.H.Heap.reads_of c.args.heap.now) (g.H.Heap.reads_of c.read.new.self) (g.H.Heap.reads_of c.set_below.new.heap) (omega (arith, c.in_ok-read.ensures.reads)) c.set_below.ensures.reads)
 
-pub returns-in_err-all-clause-reads : goal.returns-in_err-all-clause-reads
-returns-in_err-all-clause-reads g t c =
+pub returns-in_err-node-clause-reads : goal.returns-in_err-node-clause-reads
+returns-in_err-node-clause-reads g t c =
     let got : Got (g.H.Heap.map_of c.args.heap.now) c.args.handle c.as_slice.result.now = rw c.as_slice.ensures c.in_ok-read.ensures.read in
     let on : WayRead c.args.put.now.key c.in-Some.bytes.now c.in-Some.count c.in-Some-way.front.now c.in-Some-way.child c.in-Some-way.back.now = rw (sym c.args.put.now.from_is) c.in-Some-way.ensures in
     let go : AllGo (g.H.Heap.map_of c.args.heap.now) (g.H.Heap.map_of c.read.new.self) c.args.handle c.args.room c.in-Some.count c.args.put.now.key c.in-Some-way.front.now c.in-Some-way.back.now c.in-Some-way.child = goes (g.H.Heap.map_of c.args.heap.now) (g.H.Heap.map_of c.read.new.self) c.args.handle c.args.room c.as_slice.result.now c.in-Some.bytes.now c.in-Some.leaf c.in-Some.count c.args.put.now.key c.in-Some-way.front.now c.in-Some-way.back.now c.in-Some-way.child got c.in-Some.ensures.whole c.if-leaf.false on c.read.ensures.map in
@@ -95,8 +96,8 @@ returns-in_err-stored-clause-refuses g t c =
     let got : Got (g.H.Heap.map_of c.args.heap.now) c.args.handle c.as_slice.result.now = rw c.as_slice.ensures c.in_ok-read.ensures.read in
     let on : WayRead c.args.put.now.key c.in-Some.bytes.now c.in-Some.count c.in-Some-way.front.now c.in-Some-way.child c.in-Some-way.back.now = rw (sym c.args.put.now.from_is) c.in-Some-way.ensures in
     let go : AllGo (g.H.Heap.map_of c.args.heap.now) (g.H.Heap.map_of c.read.new.self) c.args.handle c.args.room c.in-Some.count c.args.put.now.key c.in-Some-way.front.now c.in-Some-way.back.now c.in-Some-way.child = goes (g.H.Heap.map_of c.args.heap.now) (g.H.Heap.map_of c.read.new.self) c.args.handle c.args.room c.as_slice.result.now c.in-Some.bytes.now c.in-Some.leaf c.in-Some.count c.args.put.now.key c.in-Some-way.front.now c.in-Some-way.back.now c.in-Some-way.child got c.in-Some.ensures.whole c.if-leaf.false on c.read.ensures.map in
-    let below : BelowSet (g.H.Heap.map_of c.read.new.self) (g.H.Heap.map_of c.set_below.new.heap) c.in-Some-way.child (c.args.room - 1) c.args.put.now.key c.args.put.now.value c.as_slice-2.result.now = rw c.as_slice-2.ensures c.in_ok-node.ensures.set in
-    refuses_then Stored (List ℕ) (IsFullFor (g.H.Heap.limit_of c.set_below.new.heap) (g.H.Heap.size_of c.store.new.heap)) (IsFullFor (g.H.Heap.limit_of c.args.heap.now) (g.H.Heap.size_of c.store.new.heap))
+    let below : BelowSet (g.H.Heap.map_of c.read.new.self) (g.H.Heap.map_of c.set_below.new.heap) c.in-Some-way.child (c.args.room - 1) c.args.put.now.key c.args.put.now.value c.as_slice-2.result.now = rw c.as_slice-2.ensures c.in_ok-below.ensures.set in
+    refuses_then Stored Changed (IsFullFor (g.H.Heap.limit_of c.set_below.new.heap) (g.H.Heap.size_of c.store.new.heap)) (IsFullFor (g.H.Heap.limit_of c.args.heap.now) (g.H.Heap.size_of c.store.new.heap))
     (NoStore (g.H.Heap.map_of c.set_below.new.heap) c.in-Some-way.child c.as_slice-2.result.now) (NoEdit (g.H.Heap.map_of c.args.heap.now) c.args.handle c.args.room)
     c.from_residual-in_err-stored.result c.in_err-stored.field-0.0 c.from_residual-in_err-stored.ensures.1
     (full_kept (g.H.Heap.limit_of c.set_below.new.heap) (g.H.Heap.limit_of c.args.heap.now) (g.H.Heap.size_of c.store.new.heap) (sym (c.set_below.ensures.frame.limit ∙ c.read.ensures.limit)))
@@ -104,4 +105,16 @@ returns-in_err-stored-clause-refuses g t c =
     c.in_err-stored.ensures.refuses
 
 pub returns-then-leaf-clause-cause : goal.returns-then-leaf-clause-cause
-returns-then-leaf-clause-cause g t c = caused_last (List ℕ) c.set_in_leaf.result c.set_in_leaf.ensures.cause c.in_ok-read.ensures.cause
+returns-then-leaf-clause-cause g t c = caused_last Changed c.set_in_leaf.result c.set_in_leaf.ensures.cause c.in_ok-read.ensures.cause
+
+pub returns-then-leaf-clause-ends : goal.returns-then-leaf-clause-ends
+returns-then-leaf-clause-ends g t c =
+    let got : Got (g.H.Heap.map_of c.args.heap.now) c.args.handle c.as_slice.result.now = rw c.as_slice.ensures c.in_ok-read.ensures.read in
+    leaf_ended (g.H.Heap.map_of c.args.heap.now) c.args.handle c.args.room c.as_slice.result.now c.in-Some.bytes.now c.in-Some.leaf c.in-Some.count c.args.put.now.key c.args.put.now.value c.set_in_leaf.result got c.in-Some.ensures.whole c.if-leaf.true c.set_in_leaf.ensures.ends
+
+pub returns-clause-ends : goal.returns-clause-ends
+returns-clause-ends g t c =
+    let got : Got (g.H.Heap.map_of c.args.heap.now) c.args.handle c.as_slice.result.now = rw c.as_slice.ensures c.in_ok-read.ensures.read in
+    let on : WayRead c.args.put.now.key c.in-Some.bytes.now c.in-Some.count c.in-Some-way.front.now c.in-Some-way.child c.in-Some-way.back.now = rw (sym c.args.put.now.from_is) c.in-Some-way.ensures in
+    let go : AllGo (g.H.Heap.map_of c.args.heap.now) (g.H.Heap.map_of c.read.new.self) c.args.handle c.args.room c.in-Some.count c.args.put.now.key c.in-Some-way.front.now c.in-Some-way.back.now c.in-Some-way.child = goes (g.H.Heap.map_of c.args.heap.now) (g.H.Heap.map_of c.read.new.self) c.args.handle c.args.room c.as_slice.result.now c.in-Some.bytes.now c.in-Some.leaf c.in-Some.count c.args.put.now.key c.in-Some-way.front.now c.in-Some-way.back.now c.in-Some-way.child got c.in-Some.ensures.whole c.if-leaf.false on c.read.ensures.map in
+    inner_ended (g.H.Heap.map_of c.args.heap.now) (g.H.Heap.map_of c.read.new.self) c.args.handle c.args.room c.in-Some.count c.args.put.now.key c.args.put.now.value c.in-Some-way.front.now c.in-Some-way.back.now c.in-Some-way.child c.in_ok-below.below.ends c.is_last-ends.result go c.in_ok-below.ensures.ends c.is_last-ends.ensures

@@ -15,7 +15,7 @@ pub returns-in_default-clause-refuses : goal.returns-in_default-clause-refuses
 returns-in_default-clause-refuses g c = λ m d pairs under s. one_headless (g.H.Heap.map_of c.args.heap.now) m d c.args.handle c.args.node.now pairs under s c.in_default.ensures.whole
 
 pub returns-then-count-gt-NODE_LIMIT-clause-stored : goal.returns-then-count-gt-NODE_LIMIT-clause-stored
-returns-then-count-gt-NODE_LIMIT-clause-stored g c = λ m d pairs under s. c.store_two.ensures.stored m d pairs under s (omega (arith, c.if-count-gt-NODE_LIMIT.true, one_count (g.H.Heap.map_of c.args.heap.now) m d c.args.handle c.args.node.now pairs under c.in-Some.count s c.in-Some.ensures.whole))
+returns-then-count-gt-NODE_LIMIT-clause-stored g c = λ m d pairs under s known. c.store_two.ensures.stored m d pairs under s (omega (arith, c.if-count-gt-NODE_LIMIT.true, one_count (g.H.Heap.map_of c.args.heap.now) m d c.args.handle c.args.node.now pairs under c.in-Some.count s c.in-Some.ensures.whole))
 
 pub returns-then-count-gt-NODE_LIMIT-clause-refuses : goal.returns-then-count-gt-NODE_LIMIT-clause-refuses
 returns-then-count-gt-NODE_LIMIT-clause-refuses g c = refuses_last (IsFullFor (g.H.Heap.limit_of c.args.heap.now) (g.H.Heap.size_of c.store_two.new.heap)) (IsFullFor (g.H.Heap.limit_of c.args.heap.now) (g.H.Heap.size_of c.store_two.new.heap)) _ (No (g.H.Heap.map_of c.args.heap.now) c.args.handle c.args.node.now) c.store_two.result (λ need most f. f)
@@ -23,7 +23,7 @@ returns-then-count-gt-NODE_LIMIT-clause-refuses g c = refuses_last (IsFullFor (g
     c.store_two.ensures.refuses
 
 pub returns-else-count-gt-NODE_LIMIT-clause-stored : goal.returns-else-count-gt-NODE_LIMIT-clause-stored
-returns-else-count-gt-NODE_LIMIT-clause-stored g c = λ m d pairs under s. c.store_one.ensures.stored m d pairs under s (omega (arith, c.if-count-gt-NODE_LIMIT.false, one_count (g.H.Heap.map_of c.args.heap.now) m d c.args.handle c.args.node.now pairs under c.in-Some.count s c.in-Some.ensures.whole))
+returns-else-count-gt-NODE_LIMIT-clause-stored g c = λ m d pairs under s known. c.store_one.ensures.stored m d pairs under s (omega (arith, c.if-count-gt-NODE_LIMIT.false, one_count (g.H.Heap.map_of c.args.heap.now) m d c.args.handle c.args.node.now pairs under c.in-Some.count s c.in-Some.ensures.whole)) known
 
 pub returns-else-count-gt-NODE_LIMIT-clause-refuses : goal.returns-else-count-gt-NODE_LIMIT-clause-refuses
 returns-else-count-gt-NODE_LIMIT-clause-refuses g c = refuses_last (IsFullFor (g.H.Heap.limit_of c.args.heap.now) (g.H.Heap.size_of c.store_one.new.heap)) (IsFullFor (g.H.Heap.limit_of c.args.heap.now) (g.H.Heap.size_of c.store_one.new.heap)) _ (No (g.H.Heap.map_of c.args.heap.now) c.args.handle c.args.node.now) c.store_one.result (λ need most f. f)

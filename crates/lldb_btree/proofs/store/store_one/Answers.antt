@@ -19,23 +19,23 @@ returns-in_err-save-clause-refuses g c =
     refuses_then (Unit {0}) Stored (IsFullFor (g.H.Heap.limit_of c.args.heap.now) (g.H.Heap.size_of c.save.new.heap)) (IsFullFor (g.H.Heap.limit_of c.args.heap.now) (g.H.Heap.size_of c.save.new.heap))
     (length c.args.node.now ≤ 35810 → MayBeDead c.args.handle (g.H.Heap.map_of c.args.heap.now))
     (No (g.H.Heap.map_of c.args.heap.now) c.args.handle c.args.node.now)
-    c.from_residual.result c.in_err-save.field-0.0 c.from_residual.ensures.1 (λ need most f. f)
+    c.from_residual-in_err-save.result c.in_err-save.field-0.0 c.from_residual-in_err-save.ensures.1 (λ need most f. f)
     (λ dead m d pairs under s few. one_unsaved (g.H.Heap.map_of c.args.heap.now) m d c.args.handle c.args.node.now pairs under s few dead)
     c.in_err-save.ensures.refuses
 
-pub returns-in_err-push_child-clause-refuses : goal.returns-in_err-push_child-clause-refuses
-returns-in_err-push_child-clause-refuses g c =
+pub returns-in_err-push_last-clause-refuses : goal.returns-in_err-push_last-clause-refuses
+returns-in_err-push_last-clause-refuses g c =
     refuses_then (Unit {0}) Stored (λ _ _. ⊥) (IsFullFor (g.H.Heap.limit_of c.args.heap.now) (g.H.Heap.size_of c.save.new.heap))
     (AreNoNode c.args.node.now)
     (No (g.H.Heap.map_of c.args.heap.now) c.args.handle c.args.node.now)
-    c.from_residual-in_err-push_child.result c.in_err-push_child.field-0.0 c.from_residual-in_err-push_child.ensures.1 (never (IsFullFor (g.H.Heap.limit_of c.args.heap.now) (g.H.Heap.size_of c.save.new.heap)))
+    c.from_residual-in_err-push_last.result c.in_err-push_last.field-0.0 c.from_residual-in_err-push_last.ensures.1 (never (IsFullFor (g.H.Heap.limit_of c.args.heap.now) (g.H.Heap.size_of c.save.new.heap)))
     (λ none m d pairs under s few. one_unread (g.H.Heap.map_of c.args.heap.now) m d c.args.handle c.args.node.now pairs under s none)
-    c.in_err-push_child.ensures.refuses
+    c.in_err-push_last.ensures.refuses
 
 pub returns-clause-stored : goal.returns-clause-stored
-returns-clause-stored g c = λ m d pairs under s few.
-    one_child (g.H.Heap.map_of c.args.heap.now) (g.H.Heap.map_of c.save.new.heap) m d c.args.handle c.args.node.now pairs under c.push_child.new.entries s few c.in_ok-save.ensures.put
-    (λ leaf es a some. c.in_ok-push_child.ensures.pushed leaf es a some ∙ ap (λ (x : List ℕ). x ++ entry_bytes (entry_of es c.args.handle)) c.new-entries.ensures)
+returns-clause-stored g c = λ m d pairs under s few known.
+    one_child (g.H.Heap.map_of c.args.heap.now) (g.H.Heap.map_of c.save.new.heap) m d c.args.handle c.args.node.now pairs under c.push_last.new.entries s few c.in_ok-save.ensures.put c.args.key.now c.args.ends known
+    (λ leaf es a some last. c.in_ok-push_last.ensures.pushed leaf es a some last ∙ ap (λ (x : List ℕ). x ++ entry_bytes (entry_of es c.args.handle)) c.in_ok-entries.ensures)
 
-pub returns-in_err-push_child-clause-cause : goal.returns-in_err-push_child-clause-cause
-returns-in_err-push_child-clause-cause g c = caused_then (Unit {0}) Stored c.from_residual-in_err-push_child.result c.in_err-push_child.field-0.0 c.from_residual-in_err-push_child.ensures.1 c.in_err-push_child.ensures.cause c.in_ok-save.ensures.cause
+pub returns-in_err-push_last-clause-cause : goal.returns-in_err-push_last-clause-cause
+returns-in_err-push_last-clause-cause g c = caused_then (Unit {0}) Stored c.from_residual-in_err-push_last.result c.in_err-push_last.field-0.0 c.from_residual-in_err-push_last.ensures.1 c.in_err-push_last.ensures.cause c.in_ok-save.ensures.cause

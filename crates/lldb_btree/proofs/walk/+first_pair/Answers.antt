@@ -31,8 +31,8 @@ returns-in-Down-clause-reads g t c =
     let all : Looks (is_ahead c.args.bound.now) c.as_slice.result.now (Ok c.in-Ok.found) = record { leaf = c.in-Ok.ensures.leaf; inner = c.in-Ok.ensures.inner } in
     reads_up (g.H.Heap.map_of c.args.heap.now) (g.H.Heap.map_of c.read.new.self) c.args.handle c.args.room (is_ahead c.args.bound.now) (ahead_falls c.args.bound.now) c.as_slice.result.now c.in-Down.child got (rw c.in-Down.is at all) c.read.ensures.map (g.H.Heap.reads_of c.args.heap.now) (g.H.Heap.reads_of c.read.new.self) (g.H.Heap.reads_of c.first_pair.new.heap) (omega (arith, c.in_ok-read.ensures.reads)) c.first_pair.ensures.reads
 
-pub returns-clause-found : goal.returns-clause-found
-returns-clause-found g t c =
+pub returns-in-Here-clause-found : goal.returns-in-Here-clause-found
+returns-in-Here-clause-found g t c =
     let got : Got (g.H.Heap.map_of c.args.heap.now) c.args.handle c.as_slice.result.now = rw c.as_slice.ensures c.in_ok-read.ensures.read in
     let all : Looks (is_ahead c.args.bound.now) c.as_slice.result.now (Ok c.in-Ok.found) = record { leaf = c.in-Ok.ensures.leaf; inner = c.in-Ok.ensures.inner } in
     λ m d least p w. (walked_here (g.H.Heap.map_of c.args.heap.now) c.args.handle c.args.room (is_ahead c.args.bound.now) c.as_slice.result.now c.in-Here.answer got (rw c.in-Here.is at all) m d least p w).0

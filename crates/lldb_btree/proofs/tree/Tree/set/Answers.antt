@@ -1,4 +1,5 @@
-use Rattle.std.proofs.Common.{ℕ, List, sym}
+use Rattle.std.proofs.Common.{sym}
+use Rattle.lldb_btree.specs.declared.set.Changed.{Changed}
 use Rattle.lldb_btree.specs.Splicing.{IsFullFor}
 use Rattle.lldb_btree.specs.Trees.{MayBeNoTree}
 use Rattle.lldb_btree.proofs.Below.{NoEdit}
@@ -9,7 +10,7 @@ use Rattle.lldb_btree.proofs.tree.Tree.set.Goals as goal
 
 pub returns-in_err-root-clause-refuses : goal.returns-in_err-root-clause-refuses
 returns-in_err-root-clause-refuses g c =
-    refuses_then (List ℕ) (Unit {0}) (IsFullFor (g.H.Heap.limit_of c.args.heap.now) (g.H.Heap.size_of c.set_below.new.heap)) (IsFullFor (g.H.Heap.limit_of c.args.heap.now) (g.H.Heap.size_of c.set_below.new.heap))
+    refuses_then Changed (Unit {0}) (IsFullFor (g.H.Heap.limit_of c.args.heap.now) (g.H.Heap.size_of c.set_below.new.heap)) (IsFullFor (g.H.Heap.limit_of c.args.heap.now) (g.H.Heap.size_of c.set_below.new.heap))
     (NoEdit (g.H.Heap.map_of c.args.heap.now) c.args.self.now.handle 17) (MayBeNoTree c.args.self.now.handle (g.H.Heap.map_of c.args.heap.now))
     c.from_residual-in_err-root.result c.in_err-root.field-0.0 c.from_residual-in_err-root.ensures.1 (λ need most f. f)
     (no_tree (g.H.Heap.map_of c.args.heap.now) c.args.self.now.handle)
