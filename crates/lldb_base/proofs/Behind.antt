@@ -1,11 +1,13 @@
 -- A batch that is written behind an offset.
-use Rattle.std.proofs.Common.{◌≡◌, ℕ, ◌+◌, ◌-◌, ◌≤◌, max, List, [], ◌∷◌, ◌++◌, length, take, drop, Option, Some, None, option_map, IfSome, OnOk, Result, Ok, Err, refl, arith, length-append, length-take, sym, ◌∙◌, ap}
+use Rattle.std.proofs.Common.{◌≡◌, ℕ, ◌+◌, ◌-◌, ◌≤◌, max, List, [], ◌∷◌, ◌++◌, length, take, drop, Option, Some, None, option_map, IfSome, OnOk, Result, Ok, Err, refl, arith, length-append, length-take, sym, ◌∙◌, ap, subst, inl, inr}
 use Rattle.std.proofs.lemmas.List.{drop-append-le, drop-drop, drop-take}
 use Rattle.lldb_base.specs.declared.batch.Piece.{Piece}
 use Rattle.lldb_base.specs.declared.trouble.Trouble.{Trouble}
 use Rattle.lldb_base.specs.declared.trouble.Trouble.TheVariants as trouble
 use Rattle.lldb_base.specs.Batch.{Edits, put, written, applied, LeaveNoGap, CanTake, reach}
 use Rattle.lldb_base.specs.Inner.{answer_behind}
+use Rattle.ql_edge.specs.Stops.{Leaves, Adds}
+use Rattle.lldb_base.specs.Stops.{Behind, IsOldOrNew, IsNew, seen_adds}
 use Rattle.lldb_base.proofs.Puts.{length_put}
 
 -- `put` groups to the left
@@ -68,3 +70,33 @@ content_behind offset shift moved size batch before now answer by long within ca
     ap (option_map (drop offset)) same
     ∙ ap (λ n. option_map (drop offset) (option_map (applied n batch) before)) by
     ∙ applied_behind offset shift size batch before long within can)
+
+pub new_behind : (offset shift moved size : ℕ) (batch : Edits) (told below : Option (List ℕ)) → moved ≡ offset + shift → IfSome told (λ c. length c ≡ size) → offset ≤ size → CanTake 0 shift (size - offset) batch → IsNew moved batch told below
+    → IsNew shift batch (option_map (drop offset) told) (option_map (drop offset) below)
+new_behind offset shift moved size batch None below by long within can new = tt
+new_behind offset shift moved size batch (Some c) below by long within can new =
+    ap (option_map (drop offset)) new
+    ∙ ap (λ n. Some (drop offset (applied n batch c))) by
+    ∙ applied_behind offset shift size batch (Some c) long within can
+
+pub either_behind : (offset shift moved size : ℕ) (batch : Edits) (told below : Option (List ℕ)) → moved ≡ offset + shift → IfSome told (λ c. length c ≡ size) → offset ≤ size → CanTake 0 shift (size - offset) batch → IsOldOrNew moved batch told below
+    → IsOldOrNew shift batch (option_map (drop offset) told) (option_map (drop offset) below)
+either_behind offset shift moved size batch None below by long within can either = tt
+either_behind offset shift moved size batch (Some c) below by long within can either = elim either [
+  | inl old ↦ inl (ap (option_map (drop offset)) old)
+  | inr new ↦ inr (new_behind offset shift moved size batch (Some c) below by long within can new)
+]
+
+pub left_behind : (offset shift moved size : ℕ) (batch : Edits) (told : Option (List ℕ)) (left : Option (List ℕ) → Type 0) → moved ≡ offset + shift → IfSome told (λ c. length c ≡ size) → offset ≤ size → CanTake 0 shift (size - offset) batch → Leaves left (IsOldOrNew moved batch told)
+    → Leaves (Behind offset left) (IsOldOrNew shift batch (option_map (drop offset) told))
+left_behind offset shift moved size batch told left by long within can stops = λ s b. subst (IsOldOrNew shift batch (option_map (drop offset) told)) (sym b.2) (either_behind offset shift moved size batch told b.0 by long within can (stops b.0 b.1))
+
+pub after_behind : (offset shift moved size : ℕ) (batch : Edits) (told : Option (List ℕ)) (left : Option (List ℕ) → Type 0) (answer : Result (Unit {0}) Trouble) → moved ≡ offset + shift → IfSome told (λ c. length c ≡ size) → offset ≤ size → CanTake 0 shift (size - offset) batch → OnOk answer (Leaves left (IsNew moved batch told))
+    → OnOk (answer_behind offset answer) (Leaves (Behind offset left) (IsNew shift batch (option_map (drop offset) told)))
+after_behind offset shift moved size batch told left answer by long within can fact =
+    ok_behind offset answer (Leaves left (IsNew moved batch told)) _ fact (λ (stops : Leaves left (IsNew moved batch told)).
+    λ s b. subst (IsNew shift batch (option_map (drop offset) told)) (sym b.2) (new_behind offset shift moved size batch told b.0 by long within can (stops b.0 b.1)))
+
+pub time_behind : (offset shift moved size : ℕ) (batch : Edits) (told : Option (List ℕ)) {before now : ℕ} {past since : ℕ → ℕ → Option (List ℕ) → Type 0} {shown : ℕ → Type 0} → moved ≡ offset + shift → IfSome told (λ c. length c ≡ size) → offset ≤ size → CanTake 0 shift (size - offset) batch → Adds before now past since (IsOldOrNew moved batch told) shown
+    → Adds before now (λ t n. Behind offset (past t n)) (λ t n. Behind offset (since t n)) (IsOldOrNew shift batch (option_map (drop offset) told)) shown
+time_behind offset shift moved size batch told by long within can time = seen_adds (option_map (drop offset)) time (λ d either. either_behind offset shift moved size batch told d by long within can either)

@@ -1,5 +1,6 @@
 -- A piece over bytes, and several in turn.
-use Rattle.std.proofs.Common.{◌≡◌, ℕ, ◌+◌, ◌≤◌, max, List, [], ◌∷◌, length, refl, arith, length-append, length-take, length-drop, ◌∙◌, ap}
+use Rattle.std.proofs.Common.{◌≡◌, ℕ, ◌+◌, ◌≤◌, max, List, [], ◌∷◌, length, take, refl, arith, length-append, length-take, length-drop, ◌∙◌, ap}
+use Rattle.std.proofs.lemmas.List.{take_all}
 use Rattle.lldb_base.specs.declared.batch.Piece.{Piece}
 use Rattle.lldb_base.specs.Batch.{Edits, put, written, applied, LeaveNoGap, CanTake, reach}
 
@@ -27,3 +28,7 @@ pub length_applied : (floor shift : ℕ) (batch : Edits) (bytes : List ℕ) → 
 length_applied floor shift batch bytes can =
     let far = length_written floor shift batch.pieces bytes can.gapless in
     length-take (shift + batch.size) (written shift batch.pieces bytes) ∙ omega (arith, far, can.covered)
+
+-- a batch without pieces and of the same length changes nothing
+pub idle_applied : (shift : ℕ) (batch : Edits) (bytes : List ℕ) → batch.pieces ≡ [] → shift + batch.size ≡ length bytes → applied shift batch bytes ≡ bytes
+idle_applied shift batch bytes none same = ap (λ (ps : List Piece). take (shift + batch.size) (written shift ps bytes)) none ∙ take_all (shift + batch.size) bytes (omega (arith, same))

@@ -3,4 +3,7 @@ pub mod Contents
 pub mod Filers
 pub mod Heaps
 pub mod Inner
+pub mod Memory
+pub mod Shown
+pub mod Stops
 pub mod Trouble

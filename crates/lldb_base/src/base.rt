@@ -1,7 +1,9 @@
 //! What lies at the bottom: a content that is changed by whole batches.
-ghost use Rattle.std.specs.Prelude.{◌≡◌, ℕ, ◌+◌, ◌^◌, ◌<◌, ◌≤◌, max, Bool, true, IsTrue, List, length, take, drop, Option, option_map, OnOk, OnErr, IfSome};
+ghost use Rattle.std.specs.Prelude.{◌≡◌, ℕ, ◌+◌, ◌^◌, ◌<◌, ◌≤◌, max, Bool, true, IsTrue, List, [], length, take, drop, Option, option_map, OnOk, OnErr, IfSome};
+ghost use Rattle.ql_edge.specs.Stops.{Leaves, HasShown, Adds, IsSameBut};
 ghost use Rattle.lldb_base.specs.Batch.{applied, bytes_of, CanTake};
 ghost use Rattle.lldb_base.specs.Filers.{IsSameBase};
+ghost use Rattle.lldb_base.specs.Stops.{LeavesOnly, IsOldOrNew, IsNew};
 ghost use Rattle.lldb_base.specs.Trouble.{IsCausedTrouble, Refuses, IsOver, SoundAfter, Counts};
 
 use crate::{Batch, Trouble};
@@ -19,6 +21,15 @@ pub trait BaseFiler: Shows {
     ghost is_sound: { Self → Bool };
 
     ghost moved_of: { Self → ℕ };
+
+    /// What a stop may leave now: a content, or none where the files below have none.
+    ghost may_leave: { Self → Option (List ℕ) → Type 0 };
+
+    /// The moment, as a number that does not fall.
+    ghost moment: { Self → ℕ };
+
+    /// What a stop at some moment since `t`, with `n` bytes shown, may have left.
+    ghost left_since: { Self → ℕ → ℕ → Option (List ℕ) → Type 0 };
 
     /// What lies before this place is never written.
     ghost floor: { ℕ };
@@ -49,13 +60,17 @@ pub trait BaseFiler: Shows {
         ensures limit { limit_of self.new ≡ limit_of self.old }
         ensures sound { is_sound self.new ≡ is_sound self.old }
         ensures moved { Counts result (length out.old) (moved_of self.old) (moved_of self.new) }
+        ensures stops { IsSameBut (content self.old) (content self.new) (may_leave self.old)
+            (may_leave self.new) (moment self.old) (moment self.new) (left_since self.old)
+            (left_since self.new) (Self.told self.old) (Self.told self.new) }
         ensures refuses { Refuses (λ _ _. ⊥) ⊥ result }
         ensures told { Self.told self.new ≡ Self.told self.old }
         ensures left { Self.left self.new ≡ Self.left self.old }
         ensures fixed { Self.fixed self.new ≡ Self.fixed self.old }
         ensures cause { IsCausedTrouble result (Self.faults self.old) (Self.faults self.new) };
 
-    /// Writes the pieces of a batch, each `shift` behind its place, and sets the size.
+    /// Writes the pieces of a batch, each `shift` behind its place, and sets the size. At each moment of it a stop leaves the
+    /// old content or the new one, and after `Ok` only the new one.
     ///
     /// `Full` and this filer's own want of memory change nothing. After a device's refusal the filer is not sound.
     fn commit(&mut self, batch: &Batch, shift: u64) -> Result<(), Trouble>
@@ -71,6 +86,17 @@ pub trait BaseFiler: Shows {
         ensures sound { SoundAfter result (is_sound self.new) }
         ensures moved { Counts result (bytes_of batch.now.pieces) (moved_of self.old)
             (moved_of self.new) }
+        ensures stops { Leaves (may_leave self.new)
+            (IsOldOrNew shift batch.now (content self.old)) }
+        ensures stops_new { OnOk result (Leaves (may_leave self.new)
+            (IsNew shift batch.now (content self.old))) }
+        ensures time { Adds (moment self.old) (moment self.new) (left_since self.old)
+            (left_since self.new) (IsOldOrNew shift batch.now (content self.old))
+            (HasShown (Self.told self.old)) }
+        ensures idle { batch.now.pieces ≡ [] → shift + batch.now.size ≡ size_of self.old
+            → Self.same self.old self.new × (moment self.new ≡ moment self.old) }
+        ensures unwritten { OnErr result (IsTrue (is_sound self.new)
+            → Self.same self.old self.new × (moment self.new ≡ moment self.old)) }
         ensures fits { OnOk result (shift + batch.now.size ≤ max (size_of self.old)
             (limit_of self.old)) }
         ensures refuses { Refuses (IsOver (size_of self.old) (limit_of self.old)
@@ -88,4 +114,16 @@ pub trait BaseFiler: Shows {
     ghost same_filer: { (x y : Self) → Self.same x y → IsSameBase (content x) (content y)
         (size_of x) (size_of y) (limit_of x) (limit_of y) (is_sound x) (is_sound y) (moved_of x)
         (moved_of y) };
+
+    ghost sound_stops: { (x : Self) → IsTrue (is_sound x) → LeavesOnly (content x) (may_leave x) };
+
+    ghost counts_now: { (x : Self) (t : ℕ) (s : Option (List ℕ)) → t ≤ moment x → may_leave x s
+        → IfSome (Self.told x) (λ u. left_since x t (length u.0) s) };
+
+    ghost only_now: { (x : Self) (n : ℕ) (s : Option (List ℕ)) → left_since x (moment x) n s
+        → may_leave x s × HasShown (Self.told x) n };
+
+    ghost same_stops: { (x y : Self) → Self.same x y → IsSameBut (content x) (content y)
+        (may_leave x) (may_leave y) (moment x) (moment y) (left_since x) (left_since y)
+        (Self.told x) (Self.told y) };
 }

@@ -1,5 +1,5 @@
 //! Pieces of bytes that are written together.
-ghost use Rattle.std.specs.Prelude.{◌≡◌, ℕ, ◌+◌, ◌^◌, ◌<◌, ◌≤◌, [], ◌∷◌, ◌++◌, length, OnOk, OnErr};
+ghost use Rattle.std.specs.Prelude.{◌≡◌, ℕ, ◌+◌, ◌^◌, ◌<◌, ◌≤◌, [], ◌∷◌, ◌++◌, length, true, false, OnOk, OnErr};
 ghost use Rattle.lldb_base.specs.Batch.{IsBatch, end_of, bytes_of, cost};
 
 use ql_edge::{Bytes, Items, NoMemory};
@@ -97,6 +97,15 @@ impl Batch {
             bytes += piece.bytes.len() as u64;
         }
         bytes
+    }
+
+    /// Whether a content of a size stays as it is where the batch is moved by a shift: there is no piece, and the size is
+    /// the same.
+    pub fn is_idle(&self, shift: u64, size: u64) -> bool
+        ensures yes { result ≡ true → (self.now.pieces ≡ []) × (shift + self.now.size ≡ size) }
+        ensures no { result ≡ false → self.now.pieces ≡ [] → shift + self.now.size ≡ size → ⊥ }
+    {
+        self.pieces.is_empty() && shift <= size && size - shift == self.size
     }
 
     /// The length of the content where all is moved by a shift.

@@ -1,8 +1,10 @@
 //! A filer over the back of another.
-ghost use Rattle.std.specs.Prelude.{◌≡◌, ℕ, ◌+◌, ◌-◌, ◌^◌, ◌<◌, ◌≤◌, List, [], ◌∷◌, drop, Option, option_map, IsTrue, refl};
+ghost use Rattle.std.specs.Prelude.{◌≡◌, ℕ, ◌+◌, ◌-◌, ◌^◌, ◌<◌, ◌≤◌, List, [], ◌∷◌, length, drop, Option, option_map, IsTrue, refl};
 ghost use Rattle.std.proofs.Common.{◌∙◌, ap};
 ghost use Rattle.lldb_base.specs.Batch.{cost};
+ghost use Rattle.ql_edge.specs.Stops.{Leaves};
 ghost use Rattle.lldb_base.specs.Inner.{answer_behind, IsBehind, sizes_behind, told_behind, same_behind};
+ghost use Rattle.lldb_base.specs.Stops.{Behind, behind_only, behind_same, if_more};
 
 use crate::{BaseFiler, Batch, Trouble};
 use ql_edge::{DeviceFault, Shows};
@@ -28,6 +30,11 @@ impl<F: BaseFiler> InnerFiler<F> {
         ensures limit { ⟦<InnerFiler<F> as BaseFiler>⟧.limit_of result ≡ F.limit_of below - offset }
         ensures sound { ⟦<InnerFiler<F> as BaseFiler>⟧.is_sound result ≡ F.is_sound below }
         ensures moved { ⟦<InnerFiler<F> as BaseFiler>⟧.moved_of result ≡ F.moved_of below }
+        ensures moment { ⟦<InnerFiler<F> as BaseFiler>⟧.moment result ≡ F.moment below }
+        ensures stops { Leaves (⟦<InnerFiler<F> as BaseFiler>⟧.may_leave result)
+            (Behind offset (F.may_leave below)) }
+        ensures since { (t n : ℕ) → Leaves (⟦<InnerFiler<F> as BaseFiler>⟧.left_since result t n)
+            (Behind offset (F.left_since below t n)) }
         ensures told { ⟦<InnerFiler<F> as Shows>⟧.told result ≡ F.told below }
         ensures left { ⟦<InnerFiler<F> as Shows>⟧.left result ≡ F.left below }
         ensures faults { ⟦<InnerFiler<F> as Shows>⟧.faults result ≡ F.faults below }
@@ -48,6 +55,13 @@ impl<F: BaseFiler> InnerFiler<F> {
             → F.fixed result ≡ rest }
         ensures sound { F.is_sound result ≡ ⟦<InnerFiler<F> as BaseFiler>⟧.is_sound self }
         ensures moved { F.moved_of result ≡ ⟦<InnerFiler<F> as BaseFiler>⟧.moved_of self }
+        ensures moment { F.moment result ≡ ⟦<InnerFiler<F> as BaseFiler>⟧.moment self }
+        ensures stops { (o : ℕ) (rest : List ℕ) (s : Option (List ℕ))
+            → ⟦<InnerFiler<F> as Shows>⟧.fixed self ≡ o ∷ rest → F.may_leave result s
+            → ⟦<InnerFiler<F> as BaseFiler>⟧.may_leave self (option_map (drop o) s) }
+        ensures since { (t n o : ℕ) (rest : List ℕ) (s : Option (List ℕ))
+            → ⟦<InnerFiler<F> as Shows>⟧.fixed self ≡ o ∷ rest → F.left_since result t n s
+            → ⟦<InnerFiler<F> as BaseFiler>⟧.left_since self t n (option_map (drop o) s) }
         ensures told { F.told result ≡ ⟦<InnerFiler<F> as Shows>⟧.told self }
         ensures left { F.left result ≡ ⟦<InnerFiler<F> as Shows>⟧.left self }
         ensures faults { F.faults result ≡ ⟦<InnerFiler<F> as Shows>⟧.faults self }
@@ -109,6 +123,12 @@ impl<F: BaseFiler> BaseFiler for InnerFiler<F> {
 
     ghost moved_of = { λ f. F.moved_of f.below };
 
+    ghost may_leave = { λ f s. Behind f.offset (F.may_leave f.below) s };
+
+    ghost moment = { λ f. F.moment f.below };
+
+    ghost left_since = { λ f t n s. Behind f.offset (F.left_since f.below t n) s };
+
     ghost floor = { 0 };
 
     fn size(&self) -> u64 {
@@ -144,4 +164,18 @@ impl<F: BaseFiler> BaseFiler for InnerFiler<F> {
 
     ghost same_filer = { λ x y same. same_behind x.offset y.offset same.1 _ _ _ _ _ _ _ _ _ _
         (F.same_filer x.below y.below same.0) };
+
+    ghost sound_stops = { λ x sound. behind_only x.offset (F.content x.below) (F.may_leave x.below)
+        (F.sound_stops x.below sound) };
+
+    ghost counts_now = { λ x t s early b. if_more (F.told x.below)
+        (λ u. F.left_since x.below t (length u.0) b.0)
+        (λ u. Behind x.offset (F.left_since x.below t (length u.0)) s)
+        (F.counts_now x.below t b.0 early b.1) (λ u left. (b.0, left, b.2)) };
+
+    ghost only_now = { λ x n s b. let now = F.only_now x.below n b.0 b.1 in
+        ((b.0, now.0, b.2), now.1) };
+
+    ghost same_stops = { λ x y same. behind_same x.offset y.offset same.1
+        (F.same_stops x.below y.below same.0) };
 }

@@ -10,6 +10,7 @@ mod laws;
 mod maps;
 mod mem_heap;
 mod memory;
+mod past;
 mod texts;
 mod trouble;
 

@@ -2,22 +2,30 @@
 ghost use Rattle.std.specs.Prelude.{◌≡◌, ◌+◌, ◌^◌, ◌≤◌, [], ◌∷◌, length, Some, true, IfOk, OnOk, OnErr, refl};
 ghost use Rattle.std.proofs.Common.{◌∙◌, ap};
 ghost use Rattle.lldb_base.specs.Batch.{put, applied, CanTake};
+ghost use Rattle.lldb_base.specs.Memory.{Stood, are_risen, mem_counts, mem_only, mem_same};
+ghost use Rattle.lldb_base.specs.Shown.{count_shown, shown_again, shown_more};
 
+use crate::past::{Past, Was};
 use crate::texts::Texts;
 use crate::{BaseFiler, Batch, Trouble};
 use ql_edge::{Bytes, DeviceFault, NoMemory, Shows};
 use std::alloc::Global;
 
-/// A content in memory. It never fails, and a `commit` writes into a copy.
+/// A content in memory, and the contents before it. It never fails, and a `commit` writes into a copy.
 #[derive(Debug, Drop)]
 pub struct MemFiler {
     alloc: Global,
     bytes: Vec<u8>,
+    /// How many bytes were shown when this content came.
+    since: u64,
+    past: Past,
     limit: u64,
     moved: u64,
     texts: Texts,
     ghost bytes_within: { length bytes.items ≤ 2 ^ 60 + 16 },
     ghost limit_within: { limit ≤ 2 ^ 60 + 16 },
+    ghost risen: { are_risen (record { shown = since; bytes = bytes.items } ∷ past)
+        (count_shown (⟦<Texts as Shows>⟧.told texts)) ≡ true },
 }
 
 impl MemFiler {
@@ -36,6 +44,8 @@ impl MemFiler {
         MemFiler {
             alloc,
             bytes: bytes.into_vec(),
+            since: 0,
+            past: Past::new(alloc),
             limit,
             moved: 0,
             texts: Texts::new(alloc),
@@ -83,13 +93,30 @@ impl Shows for MemFiler {
 
     ghost left = { λ f. ⟦<Texts as Shows>⟧.left f.texts };
 
-    ghost same = { λ x y. (y.bytes ≡ x.bytes) × (y.limit ≡ x.limit) × (y.moved ≡ x.moved) };
+    ghost same = { λ x y. (y.bytes ≡ x.bytes) × (y.limit ≡ x.limit) × (y.moved ≡ x.moved) ×
+        (y.since ≡ x.since) × (y.past ≡ x.past) × ⟦<Texts as Shows>⟧.same x.texts y.texts };
 
     ghost fixed = { λ f. f.limit ∷ [] };
 
-    ghost same_reflexive = { λ _. (refl, refl, refl) };
+    ghost same_reflexive = { λ x. (
+      refl,
+      refl,
+      refl,
+      refl,
+      refl,
+      shown_again
+          (⟦<Texts as Shows>⟧.told x.texts),
+    ) };
 
-    ghost same_transitive = { λ x y z p q. (q.0 ∙ p.0, q.1 ∙ p.1, q.2 ∙ p.2) };
+    ghost same_transitive = { λ x y z p q. (
+      q.0 ∙ p.0,
+      q.1 ∙ p.1,
+      q.2 ∙ p.2,
+      q.3 ∙ p.3,
+      q.4 ∙ p.4,
+      shown_more (⟦<Texts as Shows>⟧.told x.texts) (⟦<Texts as Shows>⟧.told y.texts)
+          (⟦<Texts as Shows>⟧.told z.texts) p.5 q.5,
+    ) };
 
     fn show(&mut self, piece: &[u8]) -> Result<u64, DeviceFault> {
         self.texts.show(piece)
@@ -110,6 +137,13 @@ impl BaseFiler for MemFiler {
     ghost is_sound = { λ _. true };
 
     ghost moved_of = { λ f. f.moved };
+
+    ghost may_leave = { λ f s. s ≡ Some f.bytes.items };
+
+    ghost moment = { λ f. length f.past + count_shown (⟦<Texts as Shows>⟧.told f.texts) };
+
+    ghost left_since = { λ f t n s. Stood (record { shown = f.since; bytes = f.bytes.items } ∷ f.past)
+        (count_shown (⟦<Texts as Shows>⟧.told f.texts)) t n s };
 
     ghost floor = { 0 };
 
@@ -145,8 +179,17 @@ impl BaseFiler for MemFiler {
                 limit: self.limit,
             });
         }
-        self.bytes = apply_batch(self.alloc, &self.bytes, batch, shift)?;
-        self.moved = self.moved.saturating_add(batch.bytes());
+        let moved = self.moved.saturating_add(batch.bytes());
+        if batch.is_idle(shift, self.size()) {
+            return Ok(());
+        }
+        let next = apply_batch(self.alloc, &self.bytes, batch, shift)?;
+        let bytes = Bytes::from_slice(self.alloc, &self.bytes)?;
+        let shown = self.since;
+        self.past.push(Was { shown, bytes })?;
+        self.since = self.texts.shown();
+        self.bytes = next;
+        self.moved = moved;
         Ok(())
     }
 
@@ -162,4 +205,15 @@ impl BaseFiler for MemFiler {
       sound = refl;
       moved = same.2;
     } };
+
+    ghost sound_stops = { λ _ _. (refl, λ s is. is) };
+
+    ghost counts_now = { λ x t s early is. mem_counts x.since x.bytes.items x.past
+        (⟦<Texts as Shows>⟧.told x.texts) t s x.risen early is };
+
+    ghost only_now = { λ x n s stood. mem_only x.since x.bytes.items x.past
+        (⟦<Texts as Shows>⟧.told x.texts) n s x.risen stood };
+
+    ghost same_stops = { λ x y same. mem_same x.since y.since x.bytes.items y.bytes.items x.past y.past
+        _ _ same.3 (ap (λ b. b.items) same.0) same.4 same.5 };
 }

@@ -2,6 +2,8 @@
 ghost use Rattle.std.specs.Prelude.{◌≡◌, ◌≤◌, ◌+◌, ◌^◌, ◌∷◌, [], length, true, false, IsTrue, IfOk, refl};
 ghost use Rattle.std.proofs.Common.{◌∙◌, ap, Some};
 ghost use Rattle.ql_edge.specs.Cause.{IsCaused};
+ghost use Rattle.lldb_base.specs.Memory.{mem_counts, mem_only, mem_same};
+ghost use Rattle.lldb_base.specs.Shown.{shown_again, shown_more};
 
 use super::*;
 use crate::levels::zeros;
@@ -158,10 +160,29 @@ impl Shows for Failing {
 
     ghost fixed = { λ f. ⟦<MemFiler as Shows>⟧.fixed f.below };
 
-    ghost same_reflexive = { λ x. ((refl, refl, refl), refl) };
+    ghost same_reflexive = { λ x. (
+      (
+        refl,
+        refl,
+        refl,
+        refl,
+        refl,
+        shown_again
+            (⟦<MemFiler as Shows>⟧.told x.below),
+      ),
+      refl,
+    ) };
 
     ghost same_transitive = { λ x y z p q. (
-      (q.0.0 ∙ p.0.0, q.0.1 ∙ p.0.1, q.0.2 ∙ p.0.2),
+      (
+        q.0.0 ∙ p.0.0,
+        q.0.1 ∙ p.0.1,
+        q.0.2 ∙ p.0.2,
+        q.0.3 ∙ p.0.3,
+        q.0.4 ∙ p.0.4,
+        shown_more (⟦<MemFiler as Shows>⟧.told x.below) (⟦<MemFiler as Shows>⟧.told y.below)
+            (⟦<MemFiler as Shows>⟧.told z.below) p.0.5 q.0.5,
+      ),
       q.1 ∙
           p.1,
     ) };
@@ -185,6 +206,12 @@ impl BaseFiler for Failing {
     ghost is_sound = { λ f. f.sound };
 
     ghost moved_of = { λ f. ⟦<MemFiler as BaseFiler>⟧.moved_of f.below };
+
+    ghost may_leave = { λ f s. ⟦<MemFiler as BaseFiler>⟧.may_leave f.below s };
+
+    ghost moment = { λ f. ⟦<MemFiler as BaseFiler>⟧.moment f.below };
+
+    ghost left_since = { λ f t n s. ⟦<MemFiler as BaseFiler>⟧.left_since f.below t n s };
 
     ghost floor = { 0 };
 
@@ -210,6 +237,9 @@ impl BaseFiler for Failing {
     }
 
     fn commit(&mut self, batch: &Batch, shift: u64) -> Result<(), Trouble> {
+        if batch.is_idle(shift, self.size()) {
+            return self.below.commit(batch, shift);
+        }
         if let Err(fault) = self.call() {
             self.sound = false;
             return Err(Trouble::from(fault));
@@ -229,6 +259,18 @@ impl BaseFiler for Failing {
       sound = same.1;
       moved = same.0.2;
     } };
+
+    ghost sound_stops = { λ _ _. (refl, λ s is. is) };
+
+    ghost counts_now = { λ f t s early left. mem_counts f.below.since f.below.bytes.items
+        f.below.past (⟦<MemFiler as Shows>⟧.told f.below) t s f.below.risen early left };
+
+    ghost only_now = { λ f n s left. mem_only f.below.since f.below.bytes.items f.below.past
+        (⟦<MemFiler as Shows>⟧.told f.below) n s f.below.risen left };
+
+    ghost same_stops = { λ x y same. mem_same x.below.since y.below.since x.below.bytes.items
+        y.below.bytes.items x.below.past y.below.past _ _ same.0.3 (ap (λ v. v.items) same.0.0)
+        same.0.4 same.0.5 };
 }
 
 /// Two levels with a change each, both ended.

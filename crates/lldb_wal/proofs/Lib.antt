@@ -12,6 +12,7 @@ pub mod OneState
 pub mod ReadParts
 pub mod ReadWhole
 pub mod Opened
+pub mod Passed
 pub mod Reread
 pub mod Settled
 pub mod Spelled

@@ -66,7 +66,7 @@ pub tidied_named : (before mid : Option Files) → IfSome before (λ f. take 16 
 tidied_named None mid named is = is
 tidied_named (Some f) mid named is = is ∙ ap (λ (xs : List ℕ). Some (f.0, xs)) named
 
-header_shut : IsShut (log_header 0)
+pub header_shut : IsShut (log_header 0)
 header_shut = record { magic = refl; gate = λ one. absurd (cc) }
 
 pub durable_rest : (before now : Option Files) (leave : Files → Type 0) → now ≡ option_map (with_log (log_header 0)) before → IsDurable now leave → IsAtRest now leave
