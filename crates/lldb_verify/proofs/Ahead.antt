@@ -75,7 +75,7 @@ blocks_next c atom o within at =
     moved c atom None = refl
     moved c atom (Some tile) =
         let there : drop (16 * size tile.extent) (drop (16 * atom) c) ≡ drop (16 * (atom + size tile.extent)) c =
-            drop-drop (16 * size tile.extent) (16 * atom) c ∙ ap (λ (k : ℕ). drop k c) (omega arith) in
+        drop-drop (16 * size tile.extent) (16 * atom) c ∙ ap (λ (k : ℕ). drop k c) (omega arith) in
         ap (λ (z : List ℕ). tile ∷ blocks_in (length c) z) there
 
 -- behind the last atom no block begins
@@ -90,7 +90,7 @@ blocks_found atoms before from p n (Moved target) row stands = refl
 blocks_found atoms before from p n (Free count) row stands = refl
 blocks_found atoms before from p n (Hole count) row stands = absurd (cc)
 
-atoms_seen : (p n : ℕ) (e : Extent) → seen_atoms (seen_as p n e) ≡ size e
+pub atoms_seen : (p n : ℕ) (e : Extent) → seen_atoms (seen_as p n e) ≡ size e
 atoms_seen p n (Used content) = refl
 atoms_seen p n (Compressed content) = refl
 atoms_seen p n (Moved target) = refl
@@ -148,11 +148,11 @@ ahead_next c all now told place next bits marks tile stands more b marked is a =
     let here : next.atom ≡ to = b.atom_is ∙ ap (λ (k : ℕ). place.atom + k) (atoms_seen p n e) in
     let atoms : ℕ = length c / 16 in
     let split : of_blocks atoms place.before place.atom (row_of (blocks_from c place.atom)) ≡ found_at place.before place.atom (seen_as p n e) ++ of_blocks atoms next.before next.atom (row_of (blocks_from c next.atom)) =
-        ap (λ (ts : List Tile). of_blocks atoms place.before place.atom (row_of ts)) more
-        ∙ blocks_found atoms place.before place.atom p n e row stands
-        ∙ ap (λ (o : Option ℕ). found_at place.before place.atom (seen_as p n e) ++ of_blocks atoms o (place.atom + seen_atoms (seen_as p n e)) row) (sym b.before_is)
-        ∙ ap (λ (k : ℕ). found_at place.before place.atom (seen_as p n e) ++ of_blocks atoms next.before k row) (sym b.atom_is)
-        ∙ ap (λ (k : ℕ). found_at place.before place.atom (seen_as p n e) ++ of_blocks atoms next.before next.atom (row_of (blocks_from c k))) (sym here) in
+    ap (λ (ts : List Tile). of_blocks atoms place.before place.atom (row_of ts)) more
+    ∙ blocks_found atoms place.before place.atom p n e row stands
+    ∙ ap (λ (o : Option ℕ). found_at place.before place.atom (seen_as p n e) ++ of_blocks atoms o (place.atom + seen_atoms (seen_as p n e)) row) (sym b.before_is)
+    ∙ ap (λ (k : ℕ). found_at place.before place.atom (seen_as p n e) ++ of_blocks atoms next.before k row) (sym b.atom_is)
+    ∙ ap (λ (k : ℕ). found_at place.before place.atom (seen_as p n e) ++ of_blocks atoms next.before next.atom (row_of (blocks_from c k))) (sym here) in
     let atoms_more : place.atom + atoms_in (row_of (blocks_from c place.atom)) ≡ place.atom + (size e + atoms_in row) = ap (λ (ts : List Tile). place.atom + atoms_in (row_of ts)) more in
     let used_more : count_of (λ x. is_used (Some x)) (row_of (blocks_from c place.atom)) ≡ cond (is_used (Some e)) 1 0 + count_of (λ x. is_used (Some x)) row = ap (λ (ts : List Tile). count_of (λ x. is_used (Some x)) (row_of ts)) more in
     let moved_more : count_of is_moved (row_of (blocks_from c place.atom)) ≡ cond (is_moved e) 1 0 + count_of is_moved row = ap (λ (ts : List Tile). count_of is_moved (row_of ts)) more in
@@ -171,6 +171,7 @@ ahead_next c all now told place next bits marks tile stands more b marked is a =
   where
     plus : (a b c : ℕ) → (a + b) + c ≡ a + (b + c)
     plus a b c = omega arith
+
     counted : (old new one step rest total all there : ℕ) → new ≡ old + one → one ≡ step → total ≡ step + rest → there ≡ rest → old + total ≡ all → new + there ≡ all
     counted old new one step rest total all there is same more behind whole = omega (arith, is, same, more, behind, whole)
 
@@ -224,9 +225,9 @@ went_stopped (Some c) place bits now found told bound e s total long within is s
     let n : ℕ = seen.tile.next in
     let rest : List Finding = of_blocks (length c / 16) (free_before place.atom (seen_as p n e1)) (place.atom + seen_atoms (seen_as p n e1)) (row_of (blocks_from c (place.atom + size e1))) in
     let split : all ≡ now ++ (found ++ rest) =
-        a.told ∙ ap (λ (ts : List Tile). now ++ of_blocks (length c / 16) place.before place.atom (row_of ts)) there
-        ∙ ap (λ (fs : List Finding). now ++ fs) (blocks_found (length c / 16) place.before place.atom p n e1 (row_of (blocks_from c (place.atom + size e1))) seen.stands)
-        ∙ ap (λ (fs : List Finding). now ++ (fs ++ rest)) (sym own) in
+    a.told ∙ ap (λ (ts : List Tile). now ++ of_blocks (length c / 16) place.before place.atom (row_of ts)) there
+    ∙ ap (λ (fs : List Finding). now ++ fs) (blocks_found (length c / 16) place.before place.atom p n e1 (row_of (blocks_from c (place.atom + size e1))) seen.stands)
+    ∙ ap (λ (fs : List Finding). now ++ (fs ++ rest)) (sym own) in
     stopped_more (now ++ found) rest all told bound e (split ∙ sym (append_assoc now found rest)) t
 
 -- of all that is to be told a log has what was told
@@ -323,9 +324,9 @@ ends_at c all place bits now even at a =
     or_false : (b : Bool) → (b || false) ≡ b
     or_false true = refl
     or_false false = refl
+
     left_none : (a b n : ℕ) → b ≡ 0 → a + b ≡ n → a ≡ n
     left_none a b n none is = omega (arith, none, is)
-
 
 abbrev numbers : ℕ → ℕ → ℕ → ℕ → Stats
 numbers a u r f = record { atoms = a; used = u; relocated = r; free = f }

@@ -2,10 +2,8 @@
 use Rattle.std.proofs.Common.{◌≡◌, ℕ, ◌+◌, ◌-◌, ◌*◌, ◌/◌, ◌≤◌, ◌<◌, min, Bool, true, false, cond, List, [], ◌∷◌, ◌++◌, length, take, drop, Option, Some, None, IfSome, option_and_then, option_map, refl, sym, ◌∙◌, ap, subst, arith, length-append, length-drop, nat_eq, nat_le}
 use Rattle.std.specs.List.{ends_with}
 use Rattle.std.specs.Cmp.Lexicographic.{pointwise}
-
 use Rattle.std.proofs.lemmas.Bool.{cond_both, leb-true}
 use Rattle.std.proofs.lemmas.List.{take-take, drop-take, drop-drop, length-take-le}
-
 use Rattle.lldb_base.specs.Contents.{atoms_for}
 use Rattle.lldb_atoms.specs.declared.block.Block.{Block}
 use Rattle.lldb_atoms.specs.declared.block.Block.TheVariants as block
@@ -73,7 +71,7 @@ end_same z e short long =
     let eight : length (drop (length z - 8) z) ≡ 8 = omega (arith, last, long) in
     let sum : (length z - 8) + (length (drop (length z - 8) z) - length e) ≡ length z - length e = omega (arith, eight, short, long) in
     let there : drop (length (drop (length z - 8) z) - length e) (drop (length z - 8) z) ≡ drop (length z - length e) z =
-        drop-drop (length (drop (length z - 8) z) - length e) (length z - 8) z ∙ ap (λ (k : ℕ). drop k z) sum in
+    drop-drop (length (drop (length z - 8) z) - length e) (length z - 8) z ∙ ap (λ (k : ℕ). drop k z) sum in
     ap (λ (xs : List ℕ). pointwise nat_eq e xs) there
 
 -- the three ways in which a block may end
@@ -155,7 +153,7 @@ tile_by_head : (c front : List ℕ) (atom size : ℕ) (o : Option Block) → len
 unfolding tile_at
 tile_by_head c front atom size o long within same is =
     let head : head_at (length (drop (16 * atom) c) / 16) (drop (16 * atom) c) ≡ o =
-        ap (λ (k : ℕ). head_at k (drop (16 * atom) c)) (left_atoms c atom size long) ∙ sym (head_same (size / 16 - atom) (size - 16 * atom) front (drop (16 * atom) c) (omega arith) same) ∙ sym is in
+    ap (λ (k : ℕ). head_at k (drop (16 * atom) c)) (left_atoms c atom size long) ∙ sym (head_same (size / 16 - atom) (size - 16 * atom) front (drop (16 * atom) c) (omega arith) same) ∙ sym is in
     ap (option_and_then (λ b. tile_on b (take (16 * atoms_of b) (drop (16 * atom) c)))) head
 
 -- no block, where no head stands
@@ -211,6 +209,6 @@ read_held (Some c) bytes out start held at n k same low high count is =
     let all : held ≡ j + m = omega (arith, low, high) in
     let short : n ≤ m = omega (arith, low, high) in
     let parts : take m (drop j bytes) ≡ take m (drop j (drop start c)) =
-        sym (drop-take j m bytes) ∙ ap (λ (i : ℕ). drop j (take i bytes)) (sym all) ∙ ap (drop j) same ∙ ap (λ (i : ℕ). drop j (take i (drop start c))) all ∙ drop-take j m (drop start c) in
+    sym (drop-take j m bytes) ∙ ap (λ (i : ℕ). drop j (take i bytes)) (sym all) ∙ ap (drop j) same ∙ ap (λ (i : ℕ). drop j (take i (drop start c))) all ∙ drop-take j m (drop start c) in
     let place : drop j (drop start c) ≡ drop at c = drop-drop j start c ∙ ap (λ (i : ℕ). drop i c) (omega (arith, low)) in
     is ∙ ap (λ (i : ℕ). take i (drop j bytes)) count ∙ sym (take-take n m (drop j bytes) short) ∙ ap (take n) parts ∙ take-take n m (drop j (drop start c)) short ∙ ap (take n) place

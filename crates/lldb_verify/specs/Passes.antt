@@ -1,7 +1,7 @@
 -- How far a verifier has come along the blocks of a content.
 use Rattle.std.specs.Prelude.{◌≡◌, ℕ, ◌+◌, ◌*◌, ◌/◌, ◌≤◌, Bool, true, false, not, ◌&&◌, ◌||◌, nat_eq, if◌then◌else◌, List, [], ◌∷◌, ◌++◌, length, drop, Option, Some, None, is_some, Result, Ok, Err}
 use Rattle.lldb_atoms.specs.Blocks.{Extent, Used, Compressed, Moved, Free, Hole, Tile, size, is_free}
-use Rattle.lldb_atoms.specs.Rows.{atoms_in, extent_at, contains}
+use Rattle.lldb_atoms.specs.Rows.{atoms_in, extent_at, contains, target_of, targets}
 use Rattle.lldb_atoms.specs.Lists.{row_of, tile_from}
 use Rattle.lldb_verify.specs.declared.finding.Finding.{Finding}
 use Rattle.lldb_verify.specs.declared.finding.Finding.TheVariants as finding
@@ -11,7 +11,8 @@ use Rattle.lldb_verify.specs.declared.finding.Stats.{Stats}
 use Rattle.lldb_verify.specs.declared.place.Place.{Place}
 use Rattle.lldb_verify.specs.declared.seen.Seen.{Seen}
 use Rattle.lldb_verify.specs.declared.seen.Seen.TheVariants as seen
-use Rattle.lldb_verify.specs.Findings.{blocks_in, beside, last_free, of_blocks, is_used}
+use Rattle.lldb_verify.specs.Findings.{blocks_in, beside, last_free, of_blocks, is_used, of_target, of_targets}
+use Rattle.lldb_verify.specs.Logs.{kept_one}
 use Rattle.lldb_verify.specs.Marks.{Marks, is_set}
 use Rattle.lldb_verify.specs.Told.{IsFront, IsStop, Tells}
 
@@ -88,3 +89,25 @@ aims_right c named target = is_used (extent_at 8 (row_of (blocks_from c 8)) targ
 pub record IsTaken (c : List ℕ) (named : List ℕ) (target : ℕ) (bits : Marks) (taken : Bool) : Type 0 where
   pub right : taken ≡ aims_right c named target
   pub marked : Marked c (target ∷ named) bits
+
+-- what was found at a block by what it names, and the bits with that as named
+pub record IsFound (c : List ℕ) (named : List ℕ) (atom : ℕ) (e : Extent) (bits : Marks) (found : Option Finding) : Type 0 where
+  pub told : kept_one found ≡ of_target (row_of (blocks_from c 8)) named atom e
+  pub marked : Marked c (target_of e ++ named) bits
+
+-- where the second pass stands
+pub record Aiming (c : List ℕ) (all : List Finding) (atom : ℕ) (bits : Marks) (now : List Finding) : Type 0 where
+  pub named : List ℕ
+  pub told : all ≡ now ++ of_targets (row_of (blocks_from c 8)) named atom (row_of (blocks_from c atom))
+  pub marked : Marked c named bits
+  pub names : (q : ℕ) → (contains named q || contains (targets (row_of (blocks_from c atom))) q) ≡ contains (targets (row_of (blocks_from c 8))) q
+
+-- the second pass went on to an atom, or it stopped
+abbrev pub Aims : List ℕ → List Finding → Option ℕ → Marks → List Finding → Result ℕ VerifyFault → Type 0
+Aims c all bound bits now (Ok next) = Aiming c all next bits now
+Aims c all bound bits now (Err e) = Tells {T = Unit {0}} all bound now (Err e)
+
+-- the second pass told what is found in what blocks name, and unset the bits of the used blocks that are named; or it stopped
+abbrev pub AllAimed : List ℕ → List Finding → Option ℕ → Marks → List Finding → Result (Unit {0}) VerifyFault → Type 0
+AllAimed c all bound bits now (Ok _) = (now ≡ all) × Marked c (targets (row_of (blocks_from c 8))) bits
+AllAimed c all bound bits now (Err e) = Tells {T = Unit {0}} all bound now (Err e)

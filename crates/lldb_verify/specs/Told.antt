@@ -42,3 +42,11 @@ fault_of trouble.Failed = fault.Failed
 fault_of trouble.NoMemory = fault.NoMemory
 fault_of (trouble.Full need limit) = fault.Failed
 fault_of trouble.Damaged = fault.Failed
+
+-- a call that tells nothing refuses only where a device or memory does
+abbrev pub OfDevice : {T : Type 0} → Result T VerifyFault → Type 0
+OfDevice (Ok _) = Unit {0}
+OfDevice (Err (fault.Found _)) = ⊥
+OfDevice (Err (fault.Stopped _)) = ⊥
+OfDevice (Err fault.Failed) = Unit {0}
+OfDevice (Err fault.NoMemory) = Unit {0}

@@ -52,7 +52,12 @@ fn reach<F: Filer>(filer: &mut F, window: &mut Window, at: u64, count: u64) -> R
 }
 
 /// Fills `out` with the bytes from a place on, which the window holds afterwards.
-pub(crate) fn read_through<F: Filer>(filer: &mut F, window: &mut Window, at: u64, out: &mut [u8]) -> Result<(), Trouble>
+pub(crate) fn read_through<F: Filer>(
+    filer: &mut F,
+    window: &mut Window,
+    at: u64,
+    out: &mut [u8],
+) -> Result<(), Trouble>
     requires sound { IsTrue (F.is_sound filer.old) }
     requires within { at + length out.old ≤ F.size_of filer.old }
     requires short { length out.old ≤ 32 }

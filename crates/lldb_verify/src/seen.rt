@@ -14,10 +14,20 @@ use lldb_base::{Filer, Trouble};
 /// A block of which all bytes but those of its content were looked at.
 #[derive(Clone, Copy, Debug)]
 pub(crate) enum Seen {
-    Used { atoms: u64 },
-    Compressed { atoms: u64 },
-    Relocated { target: u64 },
-    Free { atoms: u64, previous: u64, next: u64 },
+    Used {
+        atoms: u64,
+    },
+    Compressed {
+        atoms: u64,
+    },
+    Relocated {
+        target: u64,
+    },
+    Free {
+        atoms: u64,
+        previous: u64,
+        next: u64,
+    },
 }
 
 impl Seen {
@@ -145,7 +155,11 @@ fn read_front<F: Filer>(filer: &mut F, window: &mut Window, atom: u64) -> Result
 }
 
 /// The block that begins at an atom, where one does.
-pub(crate) fn see<F: Filer>(filer: &mut F, window: &mut Window, atom: u64) -> Result<Option<Seen>, Trouble>
+pub(crate) fn see<F: Filer>(
+    filer: &mut F,
+    window: &mut Window,
+    atom: u64,
+) -> Result<Option<Seen>, Trouble>
     requires sound { IsTrue (F.is_sound filer.old) }
     requires within { atom < F.size_of filer.old / 16 }
     requires holds { IfSome (F.content filer.old) (Holds window.old) }

@@ -50,7 +50,13 @@ fn end_found(before: Option<u64>) -> Option<Finding>
 }
 
 /// Passes over the block at a place, and answers whether one begins there.
-fn pass_block<F: Filer>(filer: &mut F, window: &mut Window, scratch: &mut Bits, log: &mut Box<dyn FaultLog>, place: &mut Place) -> Result<bool, VerifyFault>
+fn pass_block<F: Filer>(
+    filer: &mut F,
+    window: &mut Window,
+    scratch: &mut Bits,
+    log: &mut Box<dyn FaultLog>,
+    place: &mut Place,
+) -> Result<bool, VerifyFault>
     requires sound { IsTrue (F.is_sound filer.old) }
     requires within { place.old.atom < F.size_of filer.old / 16 }
     requires holds { IfSome (F.content filer.old) (Holds window.old) }
@@ -85,7 +91,13 @@ fn pass_block<F: Filer>(filer: &mut F, window: &mut Window, scratch: &mut Bits, 
 }
 
 /// Passes over the blocks from a place on, up to the end or to where none begins, and answers whether it came to the end.
-fn pass_on<F: Filer>(filer: &mut F, window: &mut Window, scratch: &mut Bits, log: &mut Box<dyn FaultLog>, place: &mut Place) -> Result<bool, VerifyFault>
+fn pass_on<F: Filer>(
+    filer: &mut F,
+    window: &mut Window,
+    scratch: &mut Bits,
+    log: &mut Box<dyn FaultLog>,
+    place: &mut Place,
+) -> Result<bool, VerifyFault>
     requires sound { IsTrue (F.is_sound filer.old) }
     requires within { place.old.atom ≤ F.size_of filer.old / 16 }
     requires holds { IfSome (F.content filer.old) (Holds window.old) }
@@ -115,7 +127,12 @@ fn pass_on<F: Filer>(filer: &mut F, window: &mut Window, scratch: &mut Bits, log
 
 /// Passes over all blocks. Where they take the whole content it answers their numbers, and the bits are those at which one
 /// begins.
-pub(crate) fn pass_blocks<F: Filer>(filer: &mut F, window: &mut Window, scratch: &mut Bits, log: &mut Box<dyn FaultLog>) -> Result<Option<Stats>, VerifyFault>
+pub(crate) fn pass_blocks<F: Filer>(
+    filer: &mut F,
+    window: &mut Window,
+    scratch: &mut Bits,
+    log: &mut Box<dyn FaultLog>,
+) -> Result<Option<Stats>, VerifyFault>
     requires sound { IsTrue (F.is_sound filer.old) }
     requires table { 128 ≤ F.size_of filer.old }
     requires whole { F.size_of filer.old % 16 ≡ 0 }

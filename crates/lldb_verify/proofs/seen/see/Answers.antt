@@ -8,7 +8,7 @@ returns-in_ok-read_through-in-Some-clause-seen g c =
     let told : Option (List ℕ) = g.F.Filer.content c.args.filer.now in
     let is : Some c.in-Some.block ≡ head_at (g.F.Filer.size_of c.args.filer.now / 16 - c.args.atom) c.in_ok-head.head = cc in
     let last : IfSome told (λ b. c.read_through.new.out ≡ take 8 (drop (16 * (c.args.atom + c.atoms_of.result) - 8) b)) =
-        subst (λ (o : Option (List ℕ)). IfSome o (λ b. c.read_through.new.out ≡ take 8 (drop (16 * (c.args.atom + c.atoms_of.result) - 8) b))) c.in_ok-head.ensures.frame.content c.in_ok-read_through-in-Some.ensures.read in
+    subst (λ (o : Option (List ℕ)). IfSome o (λ b. c.read_through.new.out ≡ take 8 (drop (16 * (c.args.atom + c.atoms_of.result) - 8) b))) c.in_ok-head.ensures.frame.content c.in_ok-read_through-in-Some.ensures.read in
     sees_block told c.in_ok-head.head c.read_through.new.out c.args.atom (g.F.Filer.size_of c.args.filer.now) c.atoms_of.result c.in-Some.block c.judged.result (g.met.F.Filer.told_size c.args.filer.now c.requires.sound) c.requires.within c.in_ok-head.ensures.read is c.atoms_of.ensures last c.judged.ensures.seen
 
 pub returns-in_ok-read_through-in-Some-clause-within : goal.returns-in_ok-read_through-in-Some-clause-within

@@ -30,4 +30,3 @@ pub returns-clause-passed : goal.returns-clause-passed
 returns-clause-passed g c =
     passed_all (λ (b : List ℕ). ((goal.FaultLog-dyn g (c.args.log.now.vtable, c.args.log.now.value)).list c.args.log.now.value) ++ of_blocks (length b / 16) None 8 (row_of (blocks_from b 8))) (g.F.Filer.content c.args.filer.now) (g.F.Filer.size_of c.args.filer.now) c.pass_on.new.place c.pass_on.new.scratch ((goal.FaultLog-dyn g (c.pass_on.new.log.vtable, c.pass_on.new.log.value)).list c.pass_on.new.log.value) ((goal.FaultLog-dyn g (c.tell.new.log.vtable, c.tell.new.log.value)).list c.tell.new.log.value) (record { atoms = c.size-atoms.result / 16; used = c.pass_on.new.place.used; relocated = c.pass_on.new.place.relocated; free = c.pass_on.new.place.free }) (g.met.F.Filer.told_size c.args.filer.now c.requires.sound) c.requires.whole (c.in_ok-ended.ensures.end c.if-not-ended.false) (ap (λ (n : ℕ). n / 16) c.size-atoms.ensures) refl refl refl
     (c.in_ok-tell.ensures.told.0 ∙ ap (λ (fs : List Finding). ((goal.FaultLog-dyn g (c.pass_on.new.log.vtable, c.pass_on.new.log.value)).list c.pass_on.new.log.value) ++ fs) c.end_found.ensures) (went_on (λ (b : List ℕ). ((goal.FaultLog-dyn g (c.args.log.now.vtable, c.args.log.now.value)).list c.args.log.now.value) ++ of_blocks (length b / 16) None 8 (row_of (blocks_from b 8))) (g.F.Filer.content c.args.filer.now) (g.F.Filer.content c.args.filer.now) c.new-place.result c.pass_on.new.place c.args.scratch.now c.pass_on.new.scratch ((goal.FaultLog-dyn g (c.args.log.now.vtable, c.args.log.now.value)).list c.args.log.now.value) ((goal.FaultLog-dyn g (c.pass_on.new.log.vtable, c.pass_on.new.log.value)).list c.pass_on.new.log.value) ((goal.FaultLog-dyn g (c.args.log.now.vtable, c.args.log.now.value)).bound c.args.log.now.value) c.in_ok-ended.ended refl c.if-not-ended.false c.in_ok-ended.ensures.went (ahead_first (g.F.Filer.content c.args.filer.now) c.new-place.result c.args.scratch.now ((goal.FaultLog-dyn g (c.args.log.now.vtable, c.args.log.now.value)).list c.args.log.now.value) c.new-place.ensures.atom c.new-place.ensures.before c.new-place.ensures.used c.new-place.ensures.relocated c.new-place.ensures.free c.requires.clear))
-
