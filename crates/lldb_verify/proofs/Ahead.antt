@@ -1,9 +1,9 @@
 -- How the first pass goes from block to block.
-use Rattle.std.proofs.Common.{◌≡◌, ℕ, zero, suc, ◌+◌, ◌*◌, ◌/◌, ◌%◌, ◌≤◌, ◌<◌, inl, inr, Bool, true, false, cond, ◌||◌, List, [], ◌∷◌, ◌++◌, length, drop, Option, Some, None, IfSome, is_some, option_map, Result, Ok, Err, refl, sym, ◌∙◌, ap, ap₂, subst, append_assoc, arith, length-drop, nat_eq}
+use Rattle.std.proofs.Common.{◌≡◌, ℕ, zero, suc, ◌+◌, ◌*◌, ◌/◌, ◌%◌, ◌≤◌, ◌<◌, Bool, true, false, cond, ◌||◌, List, [], ◌∷◌, ◌++◌, length, drop, Option, Some, None, IfSome, is_some, option_map, Result, Ok, Err, refl, sym, ◌∙◌, ap, subst, append_assoc, arith, length-drop, nat_eq}
 use Rattle.std.specs.Prelude.{IsErrAnd}
 use Rattle.std.proofs.Math.Nat.{mod-add-div'}
-use Rattle.std.proofs.lemmas.Bool.{cases_Bool, eq-eqb, ne_eqb}
-use Rattle.std.proofs.lemmas.List.{drop-drop, drop_all, append-nil}
+use Rattle.std.proofs.lemmas.Bool.{eq-eqb, ne_eqb}
+use Rattle.std.proofs.lemmas.List.{drop-drop, drop_all}
 use Rattle.lldb_atoms.specs.Blocks.{Extent, Used, Compressed, Moved, Free, Hole, Tile, size, is_free, tile_at}
 use Rattle.lldb_atoms.specs.Rows.{atoms_in}
 use Rattle.lldb_atoms.specs.Lists.{row_of, tile_from}
@@ -17,15 +17,14 @@ use Rattle.lldb_verify.specs.declared.finding.Stats.{Stats}
 use Rattle.lldb_verify.specs.declared.place.Place.{Place}
 use Rattle.lldb_verify.specs.declared.window.Window.{Window}
 use Rattle.lldb_verify.specs.declared.seen.Seen.{Seen}
-use Rattle.lldb_verify.specs.declared.seen.Seen.TheVariants as seen
-use Rattle.lldb_verify.specs.Findings.{unless, with_rest, blocks_in, last_free, of_blocks, is_used}
+use Rattle.lldb_verify.specs.Findings.{with_rest, blocks_in, last_free, of_blocks, is_used}
 use Rattle.lldb_verify.specs.Marks.{Marks, is_set, with_mark}
 use Rattle.lldb_verify.specs.Reads.{Holds, seen_atoms, free_before, one_used, one_moved, one_free, seen_as, seen_of}
-use Rattle.lldb_verify.specs.Passes.{blocks_from, found_at, is_moved, count_of, stats_of, Ahead, IsStuck, Goes, Passed, Passes}
+use Rattle.lldb_verify.specs.Passes.{blocks_from, found_at, is_moved, count_of, stats_of, Ahead, IsStuck, Goes, Passed}
 use Rattle.ql_edge.specs.Cause.{Rose}
 use Rattle.lldb_base.specs.declared.trouble.Trouble.{Trouble}
 use Rattle.lldb_base.specs.declared.trouble.Trouble.TheVariants as trouble
-use Rattle.lldb_verify.specs.Told.{IsFront, IsStop, Tells, IsCausedFault, fault_of}
+use Rattle.lldb_verify.specs.Told.{IsFront, Tells, IsCausedFault, fault_of}
 use Rattle.lldb_verify.proofs.Wholes.{measured}
 
 -- the blocks behind one, by a number that is enough

@@ -1,5 +1,5 @@
 -- How the second pass goes from block to block.
-use Rattle.std.proofs.Common.{◌≡◌, ℕ, zero, suc, ◌+◌, ◌*◌, ◌/◌, ◌%◌, ◌≤◌, ◌<◌, inl, inr, Bool, true, false, not, cond, ◌&&◌, ◌||◌, List, [], ◌∷◌, ◌++◌, length, drop, Option, Some, None, IfSome, Ok, Err, is_some, option_map, refl, sym, ◌∙◌, ap, subst, append_assoc, arith, length-drop, nat_eq}
+use Rattle.std.proofs.Common.{◌≡◌, ℕ, ◌+◌, ◌*◌, ◌/◌, ◌%◌, ◌≤◌, ◌<◌, inl, inr, Bool, true, false, not, cond, ◌&&◌, ◌||◌, List, [], ◌∷◌, ◌++◌, length, drop, Option, Some, None, IfSome, Ok, Err, is_some, option_map, refl, sym, ◌∙◌, ap, subst, append_assoc, arith, length-drop, nat_eq}
 use Rattle.std.proofs.Math.Nat.{mod-add-div'}
 use Rattle.std.proofs.lemmas.List.{append-nil}
 use Rattle.std.proofs.lemmas.Bool.{cases_Bool, cases_lt, eqb-true, false≢true}
@@ -19,7 +19,7 @@ use Rattle.lldb_verify.specs.declared.finding.VerifyFault.TheVariants as fault
 use Rattle.lldb_verify.specs.Told.{Tells, OfDevice, fault_of}
 use Rattle.lldb_verify.specs.declared.seen.Seen.{Seen}
 use Rattle.lldb_verify.specs.declared.seen.Seen.TheVariants as seen
-use Rattle.lldb_verify.specs.Passes.{blocks_from, Marked, aims_right, IsTaken, IsFound, Aiming, Aims, AllAimed}
+use Rattle.lldb_verify.specs.Passes.{blocks_from, Marked, IsTaken, IsFound, Aiming, Aims, AllAimed}
 use Rattle.lldb_verify.proofs.Wholes.{measured}
 use Rattle.lldb_verify.proofs.Walks.{extent_there}
 use Rattle.lldb_verify.proofs.Ahead.{blocks_next, blocks_end, atoms_seen, seen_there, none_there, stopped_more}

@@ -1,5 +1,5 @@
 -- A block is seen by its head and its last eight bytes.
-use Rattle.std.proofs.Common.{◌≡◌, ℕ, ◌+◌, ◌-◌, ◌*◌, ◌/◌, ◌≤◌, ◌<◌, min, Bool, true, false, cond, List, [], ◌∷◌, ◌++◌, length, take, drop, Option, Some, None, IfSome, option_and_then, option_map, refl, sym, ◌∙◌, ap, subst, arith, length-append, length-drop, nat_eq, nat_le}
+use Rattle.std.proofs.Common.{◌≡◌, ℕ, ◌+◌, ◌-◌, ◌*◌, ◌/◌, ◌≤◌, ◌<◌, min, Bool, true, false, cond, List, [], ◌∷◌, ◌++◌, length, take, drop, Option, Some, None, IfSome, option_and_then, option_map, refl, sym, ◌∙◌, ap, arith, length-append, length-drop, nat_eq, nat_le}
 use Rattle.std.specs.List.{ends_with}
 use Rattle.std.specs.Cmp.Lexicographic.{pointwise}
 use Rattle.std.proofs.lemmas.Bool.{cond_both, leb-true}
@@ -8,7 +8,7 @@ use Rattle.lldb_base.specs.Contents.{atoms_for}
 use Rattle.lldb_atoms.specs.declared.block.Block.{Block}
 use Rattle.lldb_atoms.specs.declared.block.Block.TheVariants as block
 use Rattle.lldb_atoms.specs.Numbers.{as_bytes}
-use Rattle.lldb_atoms.specs.Heads.{head_of, ending_of, atoms_of, IsValid, HasHead, head_at}
+use Rattle.lldb_atoms.specs.Heads.{head_of, ending_of, atoms_of, IsValid, head_at}
 use Rattle.lldb_atoms.specs.Blocks.{Tile, tile_of, compressed_of, tile_on, tile_at}
 use Rattle.lldb_atoms.proofs.AsBytes.{length-as_bytes}
 use Rattle.lldb_atoms.proofs.Says.{atoms_some}

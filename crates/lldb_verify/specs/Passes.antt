@@ -1,20 +1,19 @@
 -- How far a verifier has come along the blocks of a content.
-use Rattle.std.specs.Prelude.{◌≡◌, ℕ, ◌+◌, ◌*◌, ◌/◌, ◌≤◌, Bool, true, false, not, ◌&&◌, ◌||◌, nat_eq, if◌then◌else◌, List, [], ◌∷◌, ◌++◌, length, drop, Option, Some, None, is_some, Result, Ok, Err}
-use Rattle.lldb_atoms.specs.Blocks.{Extent, Used, Compressed, Moved, Free, Hole, Tile, size, is_free}
+use Rattle.std.specs.Prelude.{◌≡◌, ℕ, ◌+◌, ◌*◌, ◌/◌, Bool, true, false, not, ◌&&◌, ◌||◌, nat_eq, if◌then◌else◌, List, [], ◌∷◌, ◌++◌, length, drop, Option, Some, None, is_some, Result, Ok, Err}
+use Rattle.lldb_atoms.specs.Blocks.{Extent, Used, Compressed, Moved, Free, Hole, Tile, is_free}
 use Rattle.lldb_atoms.specs.Rows.{atoms_in, extent_at, contains, target_of, targets}
 use Rattle.lldb_atoms.specs.Lists.{row_of, tile_from}
 use Rattle.lldb_verify.specs.declared.finding.Finding.{Finding}
 use Rattle.lldb_verify.specs.declared.finding.Finding.TheVariants as finding
 use Rattle.lldb_verify.specs.declared.finding.VerifyFault.{VerifyFault}
-use Rattle.lldb_verify.specs.declared.finding.VerifyFault.TheVariants as fault
 use Rattle.lldb_verify.specs.declared.finding.Stats.{Stats}
 use Rattle.lldb_verify.specs.declared.place.Place.{Place}
 use Rattle.lldb_verify.specs.declared.seen.Seen.{Seen}
 use Rattle.lldb_verify.specs.declared.seen.Seen.TheVariants as seen
-use Rattle.lldb_verify.specs.Findings.{blocks_in, beside, last_free, of_blocks, is_used, of_target, of_targets}
+use Rattle.lldb_verify.specs.Findings.{blocks_in, beside, of_blocks, is_used, of_target, of_targets}
 use Rattle.lldb_verify.specs.Logs.{kept_one}
 use Rattle.lldb_verify.specs.Marks.{Marks, is_set}
-use Rattle.lldb_verify.specs.Told.{IsFront, IsStop, Tells}
+use Rattle.lldb_verify.specs.Told.{Tells}
 
 -- the blocks of a content from an atom on, up to where none stands
 abbrev pub blocks_from : List ℕ → ℕ → List Tile

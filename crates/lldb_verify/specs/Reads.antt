@@ -1,5 +1,5 @@
 -- What is read of a content.
-use Rattle.std.specs.Prelude.{◌≡◌, ℕ, Bool, List, [], ◌∷◌, take, drop, Option, Some, None}
+use Rattle.std.specs.Prelude.{◌≡◌, ℕ, Bool, List, take, drop, Option, Some, None}
 use Rattle.lldb_atoms.specs.declared.block.Block.{Block}
 use Rattle.lldb_atoms.specs.declared.block.Block.TheVariants as block
 use Rattle.lldb_atoms.specs.Heads.{atoms_of}

@@ -1,5 +1,5 @@
 -- What a log was told when a part of a verifier returns.
-use Rattle.std.specs.Prelude.{◌≡◌, ℕ, Bool, true, false, List, [], ◌∷◌, ◌++◌, length, Option, Result, Ok, Err}
+use Rattle.std.specs.Prelude.{◌≡◌, ℕ, true, false, List, [], ◌∷◌, ◌++◌, length, Option, Result, Ok, Err}
 use Rattle.ql_edge.specs.Cause.{Rose}
 use Rattle.lldb_base.specs.declared.trouble.Trouble.{Trouble}
 use Rattle.lldb_base.specs.declared.trouble.Trouble.TheVariants as trouble

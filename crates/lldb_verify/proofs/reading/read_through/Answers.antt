@@ -1,4 +1,4 @@
-use Rattle.std.proofs.Common.{◌+◌, ◌-◌, length, IfSome, arith}
+use Rattle.std.proofs.Common.{◌+◌, ◌-◌, length, arith}
 use Rattle.lldb_verify.proofs.Sees.{read_held}
 use Rattle.lldb_verify.proofs.reading.read_through.Goals as goal
 

@@ -1,12 +1,12 @@
-use Rattle.std.proofs.Common.{◌≡◌, ℕ, ◌+◌, ◌*◌, ◌/◌, ◌++◌, List, drop, Option, Some, None, IfSome, Result, option_map, ap, ◌∙◌, subst}
+use Rattle.std.proofs.Common.{◌≡◌, ℕ, ◌+◌, ◌*◌, ◌/◌, List, drop, Option, IfSome, Result, option_map, ap, ◌∙◌, subst}
 use Rattle.lldb_atoms.specs.Blocks.{Extent, tile_at}
 use Rattle.lldb_verify.specs.declared.finding.Finding.{Finding}
 use Rattle.lldb_verify.specs.declared.finding.VerifyFault.{VerifyFault}
 use Rattle.lldb_verify.specs.declared.seen.Seen.{Seen}
 use Rattle.lldb_verify.specs.Passes.{Marked, IsFound, Aiming, Aims}
 use Rattle.lldb_verify.specs.Reads.{seen_as, seen_of}
-use Rattle.lldb_verify.specs.Told.{IsCausedFault, fault_of}
-use Rattle.lldb_verify.proofs.Ahead.{by_fault, caused_same}
+use Rattle.lldb_verify.specs.Told.{fault_of}
+use Rattle.lldb_verify.proofs.Ahead.{by_fault}
 use Rattle.lldb_verify.proofs.Aims.{of_device, aim_went, aim_stopped, aim_refused, aim_end}
 use Rattle.lldb_verify.proofs.targets.aim_block.Goals as goal
 

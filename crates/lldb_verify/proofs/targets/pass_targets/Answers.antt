@@ -1,10 +1,9 @@
-use Rattle.std.proofs.Common.{Bool, ◌≡◌, ℕ, ◌+◌, ◌/◌, ◌≤◌, ◌++◌, [], List, Option, IsTrue, length, IfSome, Result, Ok, Err, refl, sym, ◌∙◌, ap, subst, arith}
+use Rattle.std.proofs.Common.{ℕ, ◌++◌, [], List, Option, IsTrue, length, IfSome, Result, refl, sym, ◌∙◌, subst, arith}
 use Rattle.lldb_atoms.specs.Lists.{row_of}
-use Rattle.lldb_verify.specs.declared.finding.Finding.{Finding}
 use Rattle.lldb_verify.specs.declared.finding.VerifyFault.{VerifyFault}
 use Rattle.lldb_verify.specs.Findings.{of_targets}
 use Rattle.lldb_verify.specs.Logs.{has_room}
-use Rattle.lldb_verify.specs.Passes.{blocks_from, Aiming, AllAimed}
+use Rattle.lldb_verify.specs.Passes.{blocks_from, AllAimed}
 use Rattle.lldb_verify.proofs.Ahead.{by_fault, held_same}
 use Rattle.lldb_verify.proofs.Aims.{aim_first, aim_on, aim_wrong, all_aimed}
 use Rattle.lldb_verify.proofs.targets.pass_targets.Goals as goal

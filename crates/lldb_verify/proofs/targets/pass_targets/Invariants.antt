@@ -1,4 +1,4 @@
-use Rattle.std.proofs.Common.{◌-◌, ◌≡◌, ◌≤◌, ◌++◌, [], List, IsTrue, length, IfSome}
+use Rattle.std.proofs.Common.{◌-◌, ◌≡◌, ◌≤◌, ◌++◌, [], IsTrue, length, IfSome}
 use Rattle.lldb_atoms.specs.Lists.{row_of}
 use Rattle.lldb_verify.specs.Findings.{of_targets}
 use Rattle.lldb_verify.specs.Logs.{has_room}

@@ -1,4 +1,4 @@
-use Rattle.std.proofs.Common.{Bool, Result, ◌≡◌, ℕ, ◌*◌, List, drop, Option, Some, None, IfSome, option_map, sym, ◌∙◌, subst, arith}
+use Rattle.std.proofs.Common.{Bool, Result, ◌≡◌, ◌*◌, drop, Option, IfSome, option_map, sym, ◌∙◌, subst, arith}
 use Rattle.lldb_atoms.specs.Blocks.{tile_at}
 use Rattle.lldb_verify.specs.declared.seen.Seen.{Seen}
 use Rattle.lldb_verify.specs.Reads.{seen_of}

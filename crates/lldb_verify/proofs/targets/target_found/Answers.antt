@@ -1,4 +1,4 @@
-use Rattle.std.proofs.Common.{◌≡◌, ap, ◌∙◌, refl}
+use Rattle.std.proofs.Common.{ap}
 use Rattle.lldb_verify.specs.Reads.{one_moved}
 use Rattle.lldb_verify.proofs.Aims.{found_other}
 use Rattle.lldb_verify.proofs.targets.target_found.Goals as goal

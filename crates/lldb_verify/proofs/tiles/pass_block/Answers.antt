@@ -1,7 +1,6 @@
-use Rattle.std.proofs.Common.{Bool, ◌≡◌, ℕ, ◌*◌, ◌++◌, List, drop, Option, Some, None, IfSome, Result, option_map, ap, ◌∙◌, subst}
+use Rattle.std.proofs.Common.{Bool, ◌≡◌, ◌*◌, ◌++◌, List, drop, Option, IfSome, Result, option_map, ap, ◌∙◌, subst}
 use Rattle.lldb_atoms.specs.Blocks.{tile_at}
 use Rattle.lldb_verify.specs.declared.finding.Finding.{Finding}
-use Rattle.lldb_verify.specs.declared.finding.Finding.TheVariants as finding
 use Rattle.lldb_verify.specs.declared.finding.VerifyFault.{VerifyFault}
 use Rattle.lldb_verify.specs.declared.seen.Seen.{Seen}
 use Rattle.lldb_verify.specs.Logs.{kept_one}

@@ -1,9 +1,9 @@
-use Rattle.std.proofs.Common.{Bool, ◌≡◌, ℕ, ◌+◌, ◌/◌, ◌++◌, List, Option, Some, None, length, IfSome, Result, Ok, Err, true, false, refl, sym, ◌∙◌, ap, subst, arith}
+use Rattle.std.proofs.Common.{ℕ, ◌/◌, ◌++◌, List, Option, None, length, IfSome, Result, Err, refl, ◌∙◌, ap, subst}
 use Rattle.lldb_atoms.specs.Lists.{row_of}
 use Rattle.lldb_verify.specs.declared.finding.Finding.{Finding}
 use Rattle.lldb_verify.specs.declared.finding.Stats.{Stats}
 use Rattle.lldb_verify.specs.declared.finding.VerifyFault.{VerifyFault}
-use Rattle.lldb_verify.specs.Findings.{of_blocks, last_free}
+use Rattle.lldb_verify.specs.Findings.{of_blocks}
 use Rattle.lldb_verify.specs.Logs.{kept_one}
 use Rattle.lldb_verify.specs.Passes.{blocks_from, Passes}
 use Rattle.lldb_verify.specs.Told.{Tells}

@@ -1,10 +1,9 @@
-use Rattle.std.proofs.Common.{Bool, ◌≡◌, ℕ, ◌+◌, ◌/◌, ◌≤◌, List, Option, IsTrue, length, IfSome, Result, Ok, Err, true, false, refl, sym, ◌∙◌, ap, subst, arith}
+use Rattle.std.proofs.Common.{Bool, ℕ, List, Option, IsTrue, length, IfSome, Result, refl, sym, ◌∙◌, subst, arith}
 use Rattle.lldb_verify.specs.declared.finding.Finding.{Finding}
 use Rattle.lldb_verify.specs.declared.finding.VerifyFault.{VerifyFault}
 use Rattle.lldb_verify.specs.Logs.{has_room}
 use Rattle.lldb_verify.specs.Passes.{Ahead, Goes}
-use Rattle.lldb_verify.specs.Reads.{Holds}
-use Rattle.lldb_verify.proofs.Ahead.{by_fault, step_on, step_off, step_wrong, no_step, held_same}
+use Rattle.lldb_verify.proofs.Ahead.{by_fault, step_on, step_wrong, no_step, held_same}
 use Rattle.lldb_verify.proofs.tiles.pass_on.Goals as goal
 
 pub walk-init : goal.walk-init
