@@ -4,6 +4,7 @@
 mod bits;
 mod finding;
 mod laws;
+mod lists;
 mod log;
 mod place;
 mod reading;
@@ -11,11 +12,14 @@ mod seen;
 mod targets;
 mod tell;
 mod tiles;
+mod unlisted;
+mod verifier;
 mod window;
 
 pub use bits::Bits;
 pub use finding::{Finding, Stats, VerifyFault};
 pub use laws::findings_laws;
+pub use verifier::verify;
 pub use log::{AllLog, FaultLog, FirstLog};
 
 #[cfg(test)]
