@@ -2,6 +2,7 @@
 ghost use Rattle.std.specs.Prelude.{◌≡◌};
 ghost use Rattle.lldb_btree.specs.Bounds.{is_ahead};
 
+use crate::order::order_of;
 use ql_edge::Bytes;
 use std::cmp::Ordering;
 
@@ -20,12 +21,12 @@ impl Bound {
     {
         match self {
             Bound::Start => true,
-            Bound::From(bound) => match bound.as_slice().cmp(&key) {
+            Bound::From(bound) => match order_of(bound.as_slice(), key) {
                 Ordering::Less => true,
                 Ordering::Equal => true,
                 Ordering::Greater => false,
             },
-            Bound::After(bound) => match bound.as_slice().cmp(&key) {
+            Bound::After(bound) => match order_of(bound.as_slice(), key) {
                 Ordering::Less => true,
                 Ordering::Equal => false,
                 Ordering::Greater => false,

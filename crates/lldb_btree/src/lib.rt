@@ -8,6 +8,7 @@ mod entry;
 mod laws;
 mod look;
 mod node;
+mod order;
 mod set;
 mod splice;
 mod store;

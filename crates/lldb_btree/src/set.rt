@@ -18,6 +18,7 @@ ghost use Rattle.lldb_btree.specs.declared.node.Pair as pair;
 
 use crate::entry::{seek, split_entry};
 use crate::look::{handle_in, split_head};
+use crate::order::order_of;
 use crate::splice::{front_of, joined, push_entry};
 use crate::store::store;
 use crate::{Bound, NODE_LIMIT};
@@ -87,7 +88,7 @@ fn past_key<'a>(left: usize, bytes: &'a [u8], key: &[u8]) -> Option<(&'a [u8], u
         return Some((bytes, 1));
     }
     let (first, _, rest) = split_entry(true, bytes)?;
-    match key.cmp(&first) {
+    match order_of(key, first) {
         Ordering::Less => Some((bytes, 1)),
         Ordering::Equal => Some((rest, 0)),
         Ordering::Greater => Some((bytes, 1)),
