@@ -39,3 +39,11 @@ pub struct Limits {
     pub limit: Option<Typed>,
     pub offset: Option<Typed>,
 }
+
+/// The parts of a SELECT in order.
+#[derive(Drop)]
+pub struct Selected {
+    pub source: Source,
+    pub output: Output,
+    pub limits: Limits,
+}
