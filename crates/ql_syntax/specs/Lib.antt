@@ -22,3 +22,4 @@ pub mod Checked
 pub mod Operands
 pub mod Calls
 pub mod Resolving
+pub mod GroupValues
