@@ -1,5 +1,5 @@
 -- What a statement does, by the change that it made or by the text that it added.
-use Rattle.std.proofs.Common.{◌≡◌, ℕ, Bool, false, ◌<◌, List, [], Option, Some, None, IfSome, Result, Ok, Err, refl, sym, ap, subst, ◌∙◌, append-nil}
+use Rattle.std.proofs.Common.{◌≡◌, ℕ, Bool, true, false, ◌<◌, List, [], Option, Some, None, IfSome, Result, Ok, Err, refl, sym, ap, subst, ◌∙◌, append-nil}
 use Rattle.std.specs.Prelude.{IsOk}
 use Rattle.ql_syntax.specs.declared.statement.ColumnDef.{ColumnDef}
 use Rattle.ql_syntax.specs.declared.statement.RowSource.{RowSource}
@@ -53,6 +53,10 @@ query_planned schema statement q select p i e h =
     let here : statement_plan schema (s.Query q) ≡ Ok p = subst (λ (z : Statement). statement_plan schema z ≡ Ok p) i h in
     subst (λ (z : Select). select_plan schema z ≡ Ok p) (sym e) here
 
+-- a CREATE TABLE without IF NOT EXISTS
+pub loud : (statement : Statement) (quiet : Bool) (name : List ℕ) (columns : List ColumnDef) → quiet ≡ false → statement ≡ s.CreateTable quiet name columns → statement ≡ s.CreateTable false name columns
+loud statement quiet name columns e i = i ∙ ap (λ (b : Bool). s.CreateTable b name columns) e
+
 -- a CREATE TABLE a level, its plan, and that it is read back
 pub create_level : (statement : Statement) (name : List ℕ) (columns : List ColumnDef) (levels : ℕ) → statement ≡ s.CreateTable false name columns → IsDeepEnough statement levels → 0 < levels
 create_level statement name columns levels i h = subst (λ (z : Statement). IsDeepEnough z levels) i h
@@ -89,15 +93,24 @@ insert_does with_names statement name names rows_of p r o now out i h =
     subst (λ (z : Statement). IfSome o (λ d. Does (carried with_names z p d) r out out now)) (sym i)
     (changes_do (λ d. inserts name p.rows d) r o now out h)
 
+-- CREATE TABLE with IF NOT EXISTS is not built yet
+pub quiet_does : (T : Type 0) (with_names : Bool) (statement : Statement) (quiet : Bool) (name : List ℕ) (columns : List ColumnDef) (p : Plan) (f : ExecFault) (o now : Option Db) (before new : List ℕ) → f ≡ fault.Refused (record { number = 10; name = [] }) → quiet ≡ true
+    → statement ≡ s.CreateTable quiet name columns → IfSome o (λ d. Does {T = T} (carried with_names statement p d) (Err f) before new now)
+quiet_does T with_names statement quiet name columns p f None now before new i e is = tt
+quiet_does T with_names statement quiet name columns p f (Some d) now before new i e is =
+    let known : statement ≡ s.CreateTable true name columns = is ∙ ap (λ (b : Bool). s.CreateTable b name columns) e in
+    let refuses : carried with_names statement p d ≡ refused 10 = subst (λ (z : Statement). carried with_names z p d ≡ refused 10) (sym known) refl in
+    subst (λ (z : ExecFault). Does {T = T} (carried with_names statement p d) (Err z) before new now) (sym i) refuses
+
 -- every other statement with a plan is not built yet
-later : (with_names : Bool) (statement : Statement) (p : Plan) (d : Db) → ((q : Select) → statement ≡ s.Query q → ⊥) → ((name : List ℕ) (columns : List ColumnDef) → statement ≡ s.CreateTable false name columns → ⊥)
+later : (with_names : Bool) (statement : Statement) (p : Plan) (d : Db) → ((q : Select) → statement ≡ s.Query q → ⊥) → ((quiet : Bool) (name : List ℕ) (columns : List ColumnDef) → statement ≡ s.CreateTable quiet name columns → ⊥)
     → ((name : List ℕ) (names : List (List ℕ)) (rows_of : RowSource) → statement ≡ s.Insert name names rows_of → ⊥) → carried with_names statement p d ≡ refused 10
 later with_names (s.Query q) p d no_query no_create no_insert = absurd (no_query q refl)
-later with_names (s.CreateTable false name columns) p d no_query no_create no_insert = absurd (no_create name columns refl)
+later with_names (s.CreateTable quiet name columns) p d no_query no_create no_insert = absurd (no_create quiet name columns refl)
 later with_names (s.Insert name names rows_of) p d no_query no_create no_insert = absurd (no_insert name names rows_of refl)
 later with_names _ p d no_query no_create no_insert = refl
 
-pub others_do : (T : Type 0) (with_names : Bool) (statement : Statement) (p : Plan) (f : ExecFault) (o now : Option Db) (before new : List ℕ) → f ≡ fault.Refused (record { number = 10; name = [] }) → ((q : Select) → statement ≡ s.Query q → ⊥) → ((name : List ℕ) (columns : List ColumnDef) → statement ≡ s.CreateTable false name columns → ⊥)
+pub others_do : (T : Type 0) (with_names : Bool) (statement : Statement) (p : Plan) (f : ExecFault) (o now : Option Db) (before new : List ℕ) → f ≡ fault.Refused (record { number = 10; name = [] }) → ((q : Select) → statement ≡ s.Query q → ⊥) → ((quiet : Bool) (name : List ℕ) (columns : List ColumnDef) → statement ≡ s.CreateTable quiet name columns → ⊥)
     → ((name : List ℕ) (names : List (List ℕ)) (rows_of : RowSource) → statement ≡ s.Insert name names rows_of → ⊥) → IfSome o (λ d. Does {T = T} (carried with_names statement p d) (Err f) before new now)
 others_do T with_names statement p f None now before new i no_query no_create no_insert = tt
 others_do T with_names statement p f (Some d) now before new i no_query no_create no_insert =

@@ -45,10 +45,15 @@ pub fn carry<R: Rel>(
     match statement {
         Statement::Query(select) => add_select(alloc, rel, with_names, select.get(), plan, out),
         Statement::CreateTable {
-            quiet: false,
+            quiet,
             table,
             columns,
-        } => create_table(alloc, rel, table, columns),
+        } => {
+            if *quiet {
+                return Err(refusal(alloc, LATER));
+            }
+            create_table(alloc, rel, table, columns)
+        }
         Statement::Insert { table, .. } => insert_rows(alloc, rel, table, plan),
         _ => Err(refusal(alloc, LATER)),
     }
