@@ -4,7 +4,7 @@ It is written from 'Values' and 'Evaluation' in docs/LANGUAGE.md, over the resol
 is a str of Latin-1 letters, one for each byte, and a blob is bytes.
 """
 from check import trees
-from check.reference import RANGES, Refused, fits, has_aggregate, plan_of
+from check.reference import RANGES, Refused, Schema, fits, has_aggregate, plan_of
 
 WIDTHS = {kind: int(kind.lstrip("uint")) for kind in RANGES}
 
@@ -195,7 +195,7 @@ def row(statement):
     """The line that a statement shows."""
     if not isinstance(statement, trees.Select):
         raise Refused(10)
-    fields = plan_of(statement, {}).fields
+    fields = plan_of(statement, Schema({}, {})).fields
     usual = trees.Select(fields=statement.fields)
     if statement != usual or has_aggregate([expr for expr, _ in usual.fields or []]):
         raise Refused(10)
