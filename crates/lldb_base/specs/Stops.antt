@@ -1,8 +1,8 @@
 -- What a stop may leave of what a layer holds: something, or nothing where the files below hold nothing.
-use Rattle.std.specs.Prelude.{◌≡◌, ℕ, ◌+◌, ◌≤◌, ◌⊎◌, List, [], ◌∷◌, length, drop, Option, Some, None, option_map, IfSome, refl}
+use Rattle.std.specs.Prelude.{◌≡◌, ℕ, ◌⊎◌, List, [], ◌∷◌, drop, Option, Some, None, option_map, IfSome, refl}
 use Rattle.std.specs.Option.{ForSome}
 use Rattle.std.proofs.Common.{inl, inr, subst, sym, ap, arith, ◌∙◌}
-use Rattle.ql_edge.specs.Stops.{Leaves, HasShown, IsBetween, Adds, IsSameBut}
+use Rattle.ql_edge.specs.Stops.{Leaves, Adds, IsSameBut}
 use Rattle.ql_edge.specs.Told.{Told}
 use Rattle.lldb_base.specs.Batch.{Edits, applied}
 
@@ -35,11 +35,19 @@ kept_of {C} held (s ∷ saved) = kept_of s saved
 abbrev pub IsEnded : {C : Type 0} → Option C → Option C → Option C → Type 0
 IsEnded {C} kept held s = IfSome kept (λ k. (s ≡ Some k) ⊎ ForSome held (λ c. s ≡ Some c))
 
+-- the same of a map, which a change at a handle that is not live may have spoiled: then what is held is nothing
+abbrev pub IsKeptOrHeld : {C : Type 0} → Option C → Option C → Option C → Type 0
+IsKeptOrHeld {C} kept held s = IfSome kept (λ k. (s ≡ Some k) ⊎ (s ≡ held))
+
 pub adds_none : {C : Type 0} {now : ℕ} {past : ℕ → ℕ → C → Type 0} {P : C → Type 0} {shown : ℕ → Type 0} → Adds now now past past P shown
 adds_none = record { later = omega arith; keeps = λ t n c left. left; adds = λ t n c early left. inl left }
 
 pub same_but_self : {C H : Type 0} {held : H} {left : C → Type 0} {now : ℕ} {past : ℕ → ℕ → C → Type 0} {told : Told} → IsSameBut held held left left now now past past told told
 same_but_self = record { held = refl; stops = λ c left. left; stops_back = λ c left. left; moments = adds_none }
+
+pub but_held : {C G H : Type 0} {g_old g_new : G} {held_old held_new : H} {left_old left_new : C → Type 0} {before now : ℕ} {past since : ℕ → ℕ → C → Type 0} {told_old told_new : Told} → g_new ≡ g_old → IsSameBut held_old held_new left_old left_new before now past since told_old told_new
+    → IsSameBut g_old g_new left_old left_new before now past since told_old told_new
+but_held here same = record { held = here; stops = same.stops; stops_back = same.stops_back; moments = same.moments }
 
 pub if_more : {A : Type 0} (told : Option A) (P Q : A → Type 0) → IfSome told P → ((a : A) → P a → Q a) → IfSome told Q
 if_more None P Q fact more = tt

@@ -1,7 +1,9 @@
 //! Contents by handle, with nested levels, each of which can be taken back.
 ghost use Rattle.std.specs.Prelude.{◌≡◌, ℕ, ◌^◌, ◌<◌, ◌≤◌, ◌↔◌, min, ◌+◌, ◌-◌, Bool, true, false, IsTrue, List, [], ◌∷◌, length, drop, Option, Some, None, IfOk, OnOk, OnErr, IfSome};
+ghost use Rattle.ql_edge.specs.Stops.{Leaves, HasShown, Adds, IsSameBut};
 ghost use Rattle.lldb_base.specs.Contents.{Contents, content_of, with_content, without, atoms_for, AreContents};
 ghost use Rattle.lldb_base.specs.Heaps.{MayBeDead, IsGrown, IsFull, IsSameHeap};
+ghost use Rattle.lldb_base.specs.Stops.{LeavesOnly, IsKeptOrHeld, kept_of};
 ghost use Rattle.lldb_base.specs.Trouble.{IsCausedTrouble, Refuses, SoundAfter};
 
 use crate::Trouble;
@@ -9,7 +11,8 @@ use ql_edge::{Bytes, NoMemory, Shows};
 
 /// A finite map from handles to contents, and a stack of the maps that were saved.
 ///
-/// After a refused change the heap is not ready until the level is rolled back.
+/// After a refused change the heap is not ready until the level is rolled back. What is kept are the contents that were stored
+/// last: those that are held where no level is open, else those that were saved first.
 pub trait Heap: Shows {
     /// The contents, where they are told.
     ghost map_of: { Self → Option Contents };
@@ -35,6 +38,15 @@ pub trait Heap: Shows {
     ghost is_sound: { Self → Bool };
 
     ghost reads_of: { Self → ℕ };
+
+    /// What a stop may leave now: contents, or none where what lies below holds none.
+    ghost may_leave: { Self → Option Contents → Type 0 };
+
+    /// The moment, as a number that does not fall.
+    ghost moment: { Self → ℕ };
+
+    /// What a stop at some moment since `t`, with `n` bytes shown, may have left.
+    ghost left_since: { Self → ℕ → ℕ → Option Contents → Type 0 };
 
     /// Whether the heap can be used. It ends with a refused change, until that level is rolled back.
     fn ready(&self) -> bool
@@ -73,6 +85,10 @@ pub trait Heap: Shows {
         ensures refuses { Refuses (IsFull (atoms_for (length content.now)) (most_free self.old)
             (size_of self.old) (size_of self.new) (limit_of self.old))
             (map_of self.old ≡ None) result }
+        ensures stops { IsSameBut (kept_of (map_of self.old) (saved self.old))
+            (kept_of (map_of self.new) (saved self.new)) (may_leave self.old) (may_leave self.new)
+            (moment self.old) (moment self.new) (left_since self.old) (left_since self.new)
+            (Self.told self.old) (Self.told self.new) }
         ensures told { Self.told self.new ≡ Self.told self.old }
         ensures left { Self.left self.new ≡ Self.left self.old }
         ensures fixed { Self.fixed self.new ≡ Self.fixed self.old }
@@ -94,6 +110,10 @@ pub trait Heap: Shows {
         ensures reads { OnOk result (reads_of self.new ≡ min (reads_of self.old + 1) (2 ^ 64 - 1)) }
         ensures reads_kept { OnErr result (reads_of self.new ≡ reads_of self.old) }
         ensures refuses { Refuses (λ _ _. ⊥) (MayBeDead handle (map_of self.old)) result }
+        ensures stops { IsSameBut (kept_of (map_of self.old) (saved self.old))
+            (kept_of (map_of self.new) (saved self.new)) (may_leave self.old) (may_leave self.new)
+            (moment self.old) (moment self.new) (left_since self.old) (left_since self.new)
+            (Self.told self.old) (Self.told self.new) }
         ensures told { Self.told self.new ≡ Self.told self.old }
         ensures left { Self.left self.new ≡ Self.left self.old }
         ensures fixed { Self.fixed self.new ≡ Self.fixed self.old }
@@ -118,6 +138,10 @@ pub trait Heap: Shows {
             (map_of self.old) × IsFull (atoms_for (length content.now)) (most_free self.old)
             (size_of self.old) (size_of self.new) (limit_of self.old) need most)
             (MayBeDead handle (map_of self.old)) result }
+        ensures stops { IsSameBut (kept_of (map_of self.old) (saved self.old))
+            (kept_of (map_of self.new) (saved self.new)) (may_leave self.old) (may_leave self.new)
+            (moment self.old) (moment self.new) (left_since self.old) (left_since self.new)
+            (Self.told self.old) (Self.told self.new) }
         ensures told { Self.told self.new ≡ Self.told self.old }
         ensures left { Self.left self.new ≡ Self.left self.old }
         ensures fixed { Self.fixed self.new ≡ Self.fixed self.old }
@@ -138,6 +162,10 @@ pub trait Heap: Shows {
         ensures sound { is_sound self.new ≡ is_sound self.old }
         ensures reads { reads_of self.new ≡ reads_of self.old }
         ensures refuses { Refuses (λ _ _. ⊥) (MayBeDead handle (map_of self.old)) result }
+        ensures stops { IsSameBut (kept_of (map_of self.old) (saved self.old))
+            (kept_of (map_of self.new) (saved self.new)) (may_leave self.old) (may_leave self.new)
+            (moment self.old) (moment self.new) (left_since self.old) (left_since self.new)
+            (Self.told self.old) (Self.told self.new) }
         ensures told { Self.told self.new ≡ Self.told self.old }
         ensures left { Self.left self.new ≡ Self.left self.old }
         ensures fixed { Self.fixed self.new ≡ Self.fixed self.old }
@@ -159,12 +187,18 @@ pub trait Heap: Shows {
         ensures limit { limit_of self.new ≡ limit_of self.old }
         ensures sound { is_sound self.new ≡ is_sound self.old }
         ensures reads { reads_of self.new ≡ reads_of self.old }
+        ensures stops { IsSameBut (kept_of (map_of self.old) (saved self.old))
+            (kept_of (map_of self.new) (saved self.new)) (may_leave self.old) (may_leave self.new)
+            (moment self.old) (moment self.new) (left_since self.old) (left_since self.new)
+            (Self.told self.old) (Self.told self.new) }
         ensures told { Self.told self.new ≡ Self.told self.old }
         ensures left { Self.left self.new ≡ Self.left self.old }
         ensures fixed { Self.fixed self.new ≡ Self.fixed self.old }
         ensures faults { Self.faults self.new ≡ Self.faults self.old };
 
-    /// Drops what was saved last: ends a level. The end of the outermost level stores the contents.
+    /// Drops what was saved last: ends a level. The end of the outermost level stores the contents: at each moment of it a stop
+    /// leaves what was kept or what is held, and after `Ok` only what is held, which is then kept. The end of an inner level, and
+    /// a refusal that leaves the heap sound, change nothing of what a stop leaves.
     ///
     /// After a refusal the levels stand as before. Where a device refused, the heap is not ready, and no rollback helps.
     fn end_update(&mut self) -> Result<(), Trouble>
@@ -184,6 +218,19 @@ pub trait Heap: Shows {
         ensures limit { limit_of self.new ≡ limit_of self.old }
         ensures reads { reads_of self.new ≡ reads_of self.old }
         ensures refuses { Refuses (λ _ _. ⊥) ⊥ result }
+        ensures stops { Leaves (may_leave self.new) (IsKeptOrHeld (kept_of (map_of self.old)
+            (saved self.old)) (map_of self.old)) }
+        ensures time { Adds (moment self.old) (moment self.new) (left_since self.old)
+            (left_since self.new) (IsKeptOrHeld (kept_of (map_of self.old) (saved self.old))
+            (map_of self.old)) (HasShown (Self.told self.old)) }
+        ensures inner_stops { 1 < length (saved self.old) → IsSameBut (kept_of (map_of self.old)
+            (saved self.old)) (kept_of (map_of self.new) (saved self.new)) (may_leave self.old)
+            (may_leave self.new) (moment self.old) (moment self.new) (left_since self.old)
+            (left_since self.new) (Self.told self.old) (Self.told self.new) }
+        ensures unwritten { OnErr result (IsTrue (is_sound self.new) → IsSameBut (kept_of
+            (map_of self.old) (saved self.old)) (kept_of (map_of self.new) (saved self.new))
+            (may_leave self.old) (may_leave self.new) (moment self.old) (moment self.new)
+            (left_since self.old) (left_since self.new) (Self.told self.old) (Self.told self.new)) }
         ensures told { Self.told self.new ≡ Self.told self.old }
         ensures left { Self.left self.new ≡ Self.left self.old }
         ensures fixed { Self.fixed self.new ≡ Self.fixed self.old }
@@ -199,6 +246,10 @@ pub trait Heap: Shows {
         ensures limit { limit_of self.new ≡ limit_of self.old }
         ensures sound { is_sound self.new ≡ is_sound self.old }
         ensures reads { reads_of self.new ≡ reads_of self.old }
+        ensures stops { IsSameBut (kept_of (map_of self.old) (saved self.old))
+            (kept_of (map_of self.new) (saved self.new)) (may_leave self.old) (may_leave self.new)
+            (moment self.old) (moment self.new) (left_since self.old) (left_since self.new)
+            (Self.told self.old) (Self.told self.new) }
         ensures told { Self.told self.new ≡ Self.told self.old }
         ensures left { Self.left self.new ≡ Self.left self.old }
         ensures fixed { Self.fixed self.new ≡ Self.fixed self.old }
@@ -213,4 +264,17 @@ pub trait Heap: Shows {
         (saved y) (size_of x) (size_of y) (saved_sizes x) (saved_sizes y) (limit_of x) (limit_of y)
         (most_free x) (most_free y) (is_ready x) (is_ready y) (is_sound x) (is_sound y) (reads_of x)
         (reads_of y) };
+
+    ghost sound_stops: { (x : Self) → IsTrue (is_sound x) → LeavesOnly (kept_of (map_of x) (saved x))
+        (may_leave x) };
+
+    ghost counts_now: { (x : Self) (t : ℕ) (s : Option Contents) → t ≤ moment x → may_leave x s
+        → IfSome (Self.told x) (λ u. left_since x t (length u.0) s) };
+
+    ghost only_now: { (x : Self) (n : ℕ) (s : Option Contents) → left_since x (moment x) n s
+        → may_leave x s × HasShown (Self.told x) n };
+
+    ghost same_stops: { (x y : Self) → Self.same x y → IsSameBut (kept_of (map_of x) (saved x))
+        (kept_of (map_of y) (saved y)) (may_leave x) (may_leave y) (moment x) (moment y)
+        (left_since x) (left_since y) (Self.told x) (Self.told y) };
 }

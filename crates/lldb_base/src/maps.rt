@@ -55,6 +55,15 @@ impl Maps {
         let map = self.maps.pop()?;
         Some(map)
     }
+
+    /// A copy of the only map.
+    #[tactic(auto, using(crate::proofs::Stacked::only_one))]
+    pub fn copy_only(&self, alloc: Global) -> Result<BTreeMap<u64, Bytes>, NoMemory>
+        requires { length self.now ≡ 1 }
+        ensures { IfOk result (λ copy. self.now ≡ copy.entries ∷ []) }
+    {
+        copy_map(alloc, &self.maps[0])
+    }
 }
 
 /// Puts a content at a handle. After a refusal the map is as before.

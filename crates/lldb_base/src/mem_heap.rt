@@ -1,31 +1,42 @@
 //! A heap in memory.
-ghost use Rattle.std.specs.Prelude.{◌≡◌, ◌≤◌, ◌^◌, ◌<◌, ◌+◌, ◌-◌, min, IsTrue, IsSome, OnOk, IfSome, [], length, map, replicate, None, Some, true, false, IfOk, OnErr, All, refl};
+ghost use Rattle.std.specs.Prelude.{◌≡◌, ◌≤◌, ◌^◌, ◌<◌, ◌+◌, ◌-◌, min, IsTrue, IsSome, OnOk, IfSome, [], ◌∷◌, length, map, replicate, None, Some, true, false, IfOk, OnErr, All, refl};
 ghost use Rattle.std.proofs.Common.{◌∙◌, ap, sym};
 ghost use Rattle.std.proofs.Props.{props};
 ghost use Rattle.std.proofs.lemmas.List.{length-replicate, length-map};
+ghost use Rattle.ql_edge.specs.Stops.{Leaves, HasShown, Adds, IsSameBut};
 ghost use Rattle.lldb_base.specs.Contents.{AreContents, content_of, with_content, without, atoms_for};
 ghost use Rattle.lldb_base.specs.Heaps.{MayBeDead, IsGrown, IsFull};
+ghost use Rattle.lldb_base.specs.Memory.{Stood, are_risen, mem_counts, mem_only, kept_only, kept_same};
+ghost use Rattle.lldb_base.specs.Shown.{count_shown, shown_again, shown_more};
+ghost use Rattle.lldb_base.specs.Stops.{IsKeptOrHeld, kept_of};
 ghost use Rattle.lldb_base.specs.Trouble.{IsCausedTrouble, Refuses};
 
 use crate::maps::{Maps, copy_map, put_entry};
+use crate::past::{PastMaps, WasMap};
 use crate::texts::Texts;
 use crate::{Heap, Trouble};
 use ql_edge::{Bytes, DeviceFault, NoMemory, Shows};
 use std::alloc::Global;
 use std::collections::BTreeMap;
 
-/// Contents in memory. It answers neither `Failed` nor `Full`, and `Damaged` exactly where a handle is not live.
+/// Contents in memory, and those that were kept before. It answers neither `Failed` nor `Full`, and `Damaged` exactly where a
+/// handle is not live.
 #[derive(Drop)]
 pub struct MemHeap {
     alloc: Global,
     live: BTreeMap<u64, Bytes>,
     saved: Maps,
+    /// How many bytes were shown when the contents that are kept came.
+    since: u64,
+    past: PastMaps,
     ready: bool,
     reads: u64,
     texts: Texts,
     ghost contents: { AreContents live.entries } by { Prim.hlevel props },
     ghost all_contents: { All AreContents saved } by { Prim.hlevel props },
     ghost depth: { length saved ≤ 4294967295 },
+    ghost risen: { are_risen ((since, kept_of live.entries saved) ∷ past)
+        (count_shown (⟦<Texts as Shows>⟧.told texts)) ≡ true },
 }
 
 impl MemHeap {
@@ -45,10 +56,41 @@ impl MemHeap {
             alloc,
             live: BTreeMap::new(alloc),
             saved: Maps::new(alloc),
+            since: 0,
+            past: PastMaps::new(alloc),
             ready: true,
             reads: 0,
             texts: Texts::new(alloc),
         }
+    }
+}
+
+impl MemHeap {
+    /// Keeps the contents in place of those that were saved first, which go into the record.
+    fn store(&mut self) -> Result<(), NoMemory>
+        requires { length self.old.saved ≡ 1 }
+        ensures live { self.new.live ≡ self.old.live }
+        ensures ready { self.new.ready ≡ self.old.ready }
+        ensures reads { self.new.reads ≡ self.old.reads }
+        ensures texts { self.new.texts ≡ self.old.texts }
+        ensures saved { OnOk result (self.new.saved ≡ []) }
+        ensures saved_kept { OnErr result (self.new.saved ≡ self.old.saved) }
+        ensures past { OnOk result (self.new.past ≡ (
+          self.old.since,
+          kept_of self.old.live.entries
+              self.old.saved,
+        ) ∷ self.old.past) }
+        ensures past_kept { OnErr result (self.new.past ≡ self.old.past) }
+        ensures since { OnOk result (self.new.since ≡ count_shown (⟦<Texts as Shows>⟧.told
+            self.old.texts)) }
+        ensures since_kept { OnErr result (self.new.since ≡ self.old.since) }
+    {
+        let map = self.saved.copy_only(self.alloc)?;
+        let shown = self.since;
+        self.past.push(WasMap { shown, map })?;
+        self.since = self.texts.shown();
+        self.saved = Maps::new(self.alloc);
+        Ok(())
     }
 }
 
@@ -75,13 +117,32 @@ impl Shows for MemHeap {
     ghost left = { λ h. ⟦<Texts as Shows>⟧.left h.texts };
 
     ghost same = { λ x y. (y.live ≡ x.live) × (y.saved ≡ x.saved) × (y.ready ≡ x.ready) ×
-        (y.reads ≡ x.reads) };
+        (y.reads ≡ x.reads) × (y.since ≡ x.since) × (y.past ≡ x.past) ×
+        ⟦<Texts as Shows>⟧.same x.texts y.texts };
 
     ghost fixed = { λ _. [] };
 
-    ghost same_reflexive = { λ _. (refl, refl, refl, refl) };
+    ghost same_reflexive = { λ x. (
+      refl,
+      refl,
+      refl,
+      refl,
+      refl,
+      refl,
+      shown_again
+          (⟦<Texts as Shows>⟧.told x.texts),
+    ) };
 
-    ghost same_transitive = { λ x y z p q. (q.0 ∙ p.0, q.1 ∙ p.1, q.2 ∙ p.2, q.3 ∙ p.3) };
+    ghost same_transitive = { λ x y z p q. (
+      q.0 ∙ p.0,
+      q.1 ∙ p.1,
+      q.2 ∙ p.2,
+      q.3 ∙ p.3,
+      q.4 ∙ p.4,
+      q.5 ∙ p.5,
+      shown_more (⟦<Texts as Shows>⟧.told x.texts) (⟦<Texts as Shows>⟧.told y.texts)
+          (⟦<Texts as Shows>⟧.told z.texts) p.6 q.6,
+    ) };
 
     fn show(&mut self, piece: &[u8]) -> Result<u64, DeviceFault> {
         self.texts.show(piece)
@@ -110,6 +171,13 @@ impl Heap for MemHeap {
     ghost is_sound = { λ _. true };
 
     ghost reads_of = { λ h. h.reads };
+
+    ghost may_leave = { λ h s. s ≡ Some (kept_of h.live.entries h.saved) };
+
+    ghost moment = { λ h. length h.past + count_shown (⟦<Texts as Shows>⟧.told h.texts) };
+
+    ghost left_since = { λ h t n s. Stood ((h.since, kept_of h.live.entries h.saved) ∷ h.past)
+        (count_shown (⟦<Texts as Shows>⟧.told h.texts)) t n s };
 
     fn ready(&self) -> bool {
         self.ready
@@ -159,6 +227,13 @@ impl Heap for MemHeap {
             ≡ ⟦<MemHeap as Heap>⟧.reads_of self.old) }
         ensures refuses { Refuses (λ _ _. ⊥) (MayBeDead handle
             (⟦<MemHeap as Heap>⟧.map_of self.old)) result }
+        ensures stops { IsSameBut (kept_of (⟦<MemHeap as Heap>⟧.map_of self.old)
+            (⟦<MemHeap as Heap>⟧.saved self.old)) (kept_of (⟦<MemHeap as Heap>⟧.map_of self.new)
+            (⟦<MemHeap as Heap>⟧.saved self.new)) (⟦<MemHeap as Heap>⟧.may_leave self.old)
+            (⟦<MemHeap as Heap>⟧.may_leave self.new) (⟦<MemHeap as Heap>⟧.moment self.old)
+            (⟦<MemHeap as Heap>⟧.moment self.new) (⟦<MemHeap as Heap>⟧.left_since self.old)
+            (⟦<MemHeap as Heap>⟧.left_since self.new) (⟦<MemHeap as Shows>⟧.told self.old)
+            (⟦<MemHeap as Shows>⟧.told self.new) }
         ensures told { ⟦<MemHeap as Shows>⟧.told self.new ≡ ⟦<MemHeap as Shows>⟧.told self.old }
         ensures left { ⟦<MemHeap as Shows>⟧.left self.new ≡ ⟦<MemHeap as Shows>⟧.left self.old }
         ensures fixed { ⟦<MemHeap as Shows>⟧.fixed self.new ≡ ⟦<MemHeap as Shows>⟧.fixed self.old }
@@ -201,6 +276,13 @@ impl Heap for MemHeap {
             (⟦<MemHeap as Heap>⟧.most_free self.old) (⟦<MemHeap as Heap>⟧.size_of self.old)
             (⟦<MemHeap as Heap>⟧.size_of self.new) (⟦<MemHeap as Heap>⟧.limit_of self.old) need
             most) (MayBeDead handle (⟦<MemHeap as Heap>⟧.map_of self.old)) result }
+        ensures stops { IsSameBut (kept_of (⟦<MemHeap as Heap>⟧.map_of self.old)
+            (⟦<MemHeap as Heap>⟧.saved self.old)) (kept_of (⟦<MemHeap as Heap>⟧.map_of self.new)
+            (⟦<MemHeap as Heap>⟧.saved self.new)) (⟦<MemHeap as Heap>⟧.may_leave self.old)
+            (⟦<MemHeap as Heap>⟧.may_leave self.new) (⟦<MemHeap as Heap>⟧.moment self.old)
+            (⟦<MemHeap as Heap>⟧.moment self.new) (⟦<MemHeap as Heap>⟧.left_since self.old)
+            (⟦<MemHeap as Heap>⟧.left_since self.new) (⟦<MemHeap as Shows>⟧.told self.old)
+            (⟦<MemHeap as Shows>⟧.told self.new) }
         ensures told { ⟦<MemHeap as Shows>⟧.told self.new ≡ ⟦<MemHeap as Shows>⟧.told self.old }
         ensures left { ⟦<MemHeap as Shows>⟧.left self.new ≡ ⟦<MemHeap as Shows>⟧.left self.old }
         ensures fixed { ⟦<MemHeap as Shows>⟧.fixed self.new ≡ ⟦<MemHeap as Shows>⟧.fixed self.old }
@@ -240,6 +322,13 @@ impl Heap for MemHeap {
             ≡ ⟦<MemHeap as Heap>⟧.reads_of self.old }
         ensures refuses { Refuses (λ _ _. ⊥) (MayBeDead handle
             (⟦<MemHeap as Heap>⟧.map_of self.old)) result }
+        ensures stops { IsSameBut (kept_of (⟦<MemHeap as Heap>⟧.map_of self.old)
+            (⟦<MemHeap as Heap>⟧.saved self.old)) (kept_of (⟦<MemHeap as Heap>⟧.map_of self.new)
+            (⟦<MemHeap as Heap>⟧.saved self.new)) (⟦<MemHeap as Heap>⟧.may_leave self.old)
+            (⟦<MemHeap as Heap>⟧.may_leave self.new) (⟦<MemHeap as Heap>⟧.moment self.old)
+            (⟦<MemHeap as Heap>⟧.moment self.new) (⟦<MemHeap as Heap>⟧.left_since self.old)
+            (⟦<MemHeap as Heap>⟧.left_since self.new) (⟦<MemHeap as Shows>⟧.told self.old)
+            (⟦<MemHeap as Shows>⟧.told self.new) }
         ensures told { ⟦<MemHeap as Shows>⟧.told self.new ≡ ⟦<MemHeap as Shows>⟧.told self.old }
         ensures left { ⟦<MemHeap as Shows>⟧.left self.new ≡ ⟦<MemHeap as Shows>⟧.left self.old }
         ensures fixed { ⟦<MemHeap as Shows>⟧.fixed self.new ≡ ⟦<MemHeap as Shows>⟧.fixed self.old }
@@ -267,6 +356,10 @@ impl Heap for MemHeap {
     }
 
     fn end_update(&mut self) -> Result<(), Trouble> {
+        if self.saved.len() == 1 {
+            self.store()?;
+            return Ok(());
+        }
         match self.saved.pop() {
             Some(_) => Ok(()),
             None => Ok(()),
@@ -302,4 +395,15 @@ impl Heap for MemHeap {
       sound = refl;
       reads = same.3;
     } };
+
+    ghost sound_stops = { λ h _. kept_only h.live.entries h.saved };
+
+    ghost counts_now = { λ h t s early is. mem_counts h.since (kept_of h.live.entries h.saved) h.past
+        (⟦<Texts as Shows>⟧.told h.texts) t s h.risen early is };
+
+    ghost only_now = { λ h n s stood. mem_only h.since (kept_of h.live.entries h.saved) h.past
+        (⟦<Texts as Shows>⟧.told h.texts) n s h.risen stood };
+
+    ghost same_stops = { λ x y same. kept_same x.since y.since x.live.entries y.live.entries x.saved
+        y.saved x.past y.past _ _ same.4 (ap (λ m. m.entries) same.0) same.1 same.5 same.6 };
 }

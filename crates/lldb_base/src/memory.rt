@@ -24,7 +24,7 @@ pub struct MemFiler {
     texts: Texts,
     ghost bytes_within: { length bytes.items ≤ 2 ^ 60 + 16 },
     ghost limit_within: { limit ≤ 2 ^ 60 + 16 },
-    ghost risen: { are_risen (record { shown = since; bytes = bytes.items } ∷ past)
+    ghost risen: { are_risen ((since, bytes.items) ∷ past)
         (count_shown (⟦<Texts as Shows>⟧.told texts)) ≡ true },
 }
 
@@ -142,7 +142,7 @@ impl BaseFiler for MemFiler {
 
     ghost moment = { λ f. length f.past + count_shown (⟦<Texts as Shows>⟧.told f.texts) };
 
-    ghost left_since = { λ f t n s. Stood (record { shown = f.since; bytes = f.bytes.items } ∷ f.past)
+    ghost left_since = { λ f t n s. Stood ((f.since, f.bytes.items) ∷ f.past)
         (count_shown (⟦<Texts as Shows>⟧.told f.texts)) t n s };
 
     ghost floor = { 0 };
