@@ -1,6 +1,5 @@
 -- What a stop may leave of what a layer holds: something, or nothing where the files below hold nothing.
 use Rattle.std.specs.Prelude.{◌≡◌, ℕ, ◌⊎◌, List, [], ◌∷◌, drop, Option, Some, None, option_map, IfSome, refl}
-use Rattle.std.specs.Option.{ForSome}
 use Rattle.std.proofs.Common.{inl, inr, subst, sym, ap, arith, ◌∙◌}
 use Rattle.ql_edge.specs.Stops.{Leaves, Adds, IsSameBut}
 use Rattle.ql_edge.specs.Told.{Told}
@@ -31,13 +30,10 @@ abbrev pub kept_of : {C : Type 0} → C → List C → C
 kept_of {C} held [] = held
 kept_of {C} held (s ∷ saved) = kept_of s saved
 
--- where what was kept is told, the end of a level leaves it or what is held, which is told too
+-- Where what was kept is told, the end of a level leaves it or what is held. That is nothing only where a change at a handle that
+-- is not live has spoiled a map.
 abbrev pub IsEnded : {C : Type 0} → Option C → Option C → Option C → Type 0
-IsEnded {C} kept held s = IfSome kept (λ k. (s ≡ Some k) ⊎ ForSome held (λ c. s ≡ Some c))
-
--- the same of a map, which a change at a handle that is not live may have spoiled: then what is held is nothing
-abbrev pub IsKeptOrHeld : {C : Type 0} → Option C → Option C → Option C → Type 0
-IsKeptOrHeld {C} kept held s = IfSome kept (λ k. (s ≡ Some k) ⊎ (s ≡ held))
+IsEnded {C} kept held s = IfSome kept (λ k. (s ≡ Some k) ⊎ (s ≡ held))
 
 pub adds_none : {C : Type 0} {now : ℕ} {past : ℕ → ℕ → C → Type 0} {P : C → Type 0} {shown : ℕ → Type 0} → Adds now now past past P shown
 adds_none = record { later = omega arith; keeps = λ t n c left. left; adds = λ t n c early left. inl left }

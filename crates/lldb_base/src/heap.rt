@@ -3,7 +3,7 @@ ghost use Rattle.std.specs.Prelude.{◌≡◌, ℕ, ◌^◌, ◌<◌, ◌≤◌,
 ghost use Rattle.ql_edge.specs.Stops.{Leaves, HasShown, Adds, IsSameBut};
 ghost use Rattle.lldb_base.specs.Contents.{Contents, content_of, with_content, without, atoms_for, AreContents};
 ghost use Rattle.lldb_base.specs.Heaps.{MayBeDead, IsGrown, IsFull, IsSameHeap};
-ghost use Rattle.lldb_base.specs.Stops.{LeavesOnly, IsKeptOrHeld, kept_of};
+ghost use Rattle.lldb_base.specs.Stops.{LeavesOnly, IsEnded, kept_of};
 ghost use Rattle.lldb_base.specs.Trouble.{IsCausedTrouble, Refuses, SoundAfter};
 
 use crate::Trouble;
@@ -218,10 +218,10 @@ pub trait Heap: Shows {
         ensures limit { limit_of self.new ≡ limit_of self.old }
         ensures reads { reads_of self.new ≡ reads_of self.old }
         ensures refuses { Refuses (λ _ _. ⊥) ⊥ result }
-        ensures stops { Leaves (may_leave self.new) (IsKeptOrHeld (kept_of (map_of self.old)
+        ensures stops { Leaves (may_leave self.new) (IsEnded (kept_of (map_of self.old)
             (saved self.old)) (map_of self.old)) }
         ensures time { Adds (moment self.old) (moment self.new) (left_since self.old)
-            (left_since self.new) (IsKeptOrHeld (kept_of (map_of self.old) (saved self.old))
+            (left_since self.new) (IsEnded (kept_of (map_of self.old) (saved self.old))
             (map_of self.old)) (HasShown (Self.told self.old)) }
         ensures inner_stops { 1 < length (saved self.old) → IsSameBut (kept_of (map_of self.old)
             (saved self.old)) (kept_of (map_of self.new) (saved self.new)) (may_leave self.old)

@@ -8,7 +8,7 @@ ghost use Rattle.lldb_base.specs.Contents.{AreContents, content_of, with_content
 ghost use Rattle.lldb_base.specs.Heaps.{MayBeDead, IsGrown, IsFull};
 ghost use Rattle.lldb_base.specs.Memory.{Stood, are_risen, mem_counts, mem_only, kept_only, kept_same};
 ghost use Rattle.lldb_base.specs.Shown.{count_shown, shown_again, shown_more};
-ghost use Rattle.lldb_base.specs.Stops.{IsKeptOrHeld, kept_of};
+ghost use Rattle.lldb_base.specs.Stops.{IsEnded, kept_of};
 ghost use Rattle.lldb_base.specs.Trouble.{IsCausedTrouble, Refuses};
 
 use crate::maps::{Maps, copy_map, put_entry};

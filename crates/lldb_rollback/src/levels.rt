@@ -1,9 +1,11 @@
 //! A filer whose levels are whole copies.
-ghost use Rattle.std.specs.Prelude.{◌≡◌, ◌⊎◌, ◌+◌, ◌^◌, ◌<◌, ◌≤◌, [], length, true, false, IsTrue, OnOk, OnErr, option_map, IfOk, IfSome, refl};
+ghost use Rattle.std.specs.Prelude.{◌≡◌, ℕ, ◌⊎◌, ◌+◌, ◌^◌, ◌<◌, ◌≤◌, [], length, true, false, IsTrue, OnOk, OnErr, option_map, IfOk, IfSome, refl};
 ghost use Rattle.std.proofs.Common.{◌∙◌, ap};
 ghost use Rattle.lldb_base.specs.Batch.{applied, CanTake};
 ghost use Rattle.lldb_base.specs.Trouble.{IsCausedTrouble, Refuses, SoundAfter};
-ghost use Rattle.lldb_rollback.specs.Levels.{AreCopied, held, size_held, stacked, sizes_stacked, sizes_held, told_held, same_held};
+ghost use Rattle.ql_edge.specs.Stops.{Leaves, HasShown, Adds, IsSameBut};
+ghost use Rattle.lldb_base.specs.Stops.{IsEnded};
+ghost use Rattle.lldb_rollback.specs.Levels.{AreCopied, held, size_held, stacked, sizes_stacked, sizes_held, told_held, same_held, only_below, same_below};
 
 use crate::changes::changes;
 use crate::stack::Stack;
@@ -45,6 +47,10 @@ impl<F: BaseFiler> RollbackFiler<F> {
         ensures size { ⟦<RollbackFiler<F> as Filer>⟧.size_of result ≡ F.size_of below }
         ensures limit { ⟦<RollbackFiler<F> as Filer>⟧.limit_of result ≡ F.limit_of below }
         ensures sound { ⟦<RollbackFiler<F> as Filer>⟧.is_sound result ≡ true }
+        ensures moment { ⟦<RollbackFiler<F> as Filer>⟧.moment result ≡ F.moment below }
+        ensures stops { Leaves (⟦<RollbackFiler<F> as Filer>⟧.may_leave result) (F.may_leave below) }
+        ensures since { (t n : ℕ) → Leaves (⟦<RollbackFiler<F> as Filer>⟧.left_since result t n)
+            (F.left_since below t n) }
         ensures told { ⟦<RollbackFiler<F> as Shows>⟧.told result ≡ F.told below }
         ensures left { ⟦<RollbackFiler<F> as Shows>⟧.left result ≡ F.left below }
         ensures faults { ⟦<RollbackFiler<F> as Shows>⟧.faults result ≡ F.faults below }
@@ -71,6 +77,10 @@ impl<F: BaseFiler> RollbackFiler<F> {
             ≡ ⟦<RollbackFiler<F> as Filer>⟧.size_of self }
         ensures limit { F.limit_of result ≡ ⟦<RollbackFiler<F> as Filer>⟧.limit_of self }
         ensures sound { F.is_sound result ≡ ⟦<RollbackFiler<F> as Filer>⟧.is_sound self }
+        ensures moment { F.moment result ≡ ⟦<RollbackFiler<F> as Filer>⟧.moment self }
+        ensures stops { Leaves (F.may_leave result) (⟦<RollbackFiler<F> as Filer>⟧.may_leave self) }
+        ensures since { (t n : ℕ) → Leaves (F.left_since result t n)
+            (⟦<RollbackFiler<F> as Filer>⟧.left_since self t n) }
         ensures told { F.told result ≡ ⟦<RollbackFiler<F> as Shows>⟧.told self }
         ensures left { F.left result ≡ ⟦<RollbackFiler<F> as Shows>⟧.left self }
         ensures faults { F.faults result ≡ ⟦<RollbackFiler<F> as Shows>⟧.faults self }
@@ -80,6 +90,7 @@ impl<F: BaseFiler> RollbackFiler<F> {
     }
 
     /// Reads the content from below, before its first change.
+    #[tactic(auto, using(lldb_base::specs::Stops::same_but_self))]
     fn take_copy(&mut self) -> Result<(), Trouble>
         requires sound { IsTrue (⟦<RollbackFiler<F> as Filer>⟧.is_sound self.old) }
         requires depth { 1 ≤ length (⟦<RollbackFiler<F> as Filer>⟧.saved self.old) }
@@ -97,6 +108,10 @@ impl<F: BaseFiler> RollbackFiler<F> {
         ensures sound { ⟦<RollbackFiler<F> as Filer>⟧.is_sound self.new
             ≡ ⟦<RollbackFiler<F> as Filer>⟧.is_sound self.old }
         ensures refuses { Refuses (λ _ _. ⊥) ⊥ result }
+        ensures stops { IsSameBut (F.content self.old.below) (F.content self.new.below)
+            (F.may_leave self.old.below) (F.may_leave self.new.below) (F.moment self.old.below)
+            (F.moment self.new.below) (F.left_since self.old.below) (F.left_since self.new.below)
+            (F.told self.old.below) (F.told self.new.below) }
         ensures told { ⟦<RollbackFiler<F> as Shows>⟧.told self.new
             ≡ ⟦<RollbackFiler<F> as Shows>⟧.told self.old }
         ensures left { ⟦<RollbackFiler<F> as Shows>⟧.left self.new
@@ -132,6 +147,7 @@ impl<F: BaseFiler> RollbackFiler<F> {
     }
 
     /// Stores the content, and drops what was held in memory.
+    #[tactic(auto, using(lldb_base::specs::Stops::adds_none))]
     fn store(&mut self) -> Result<(), Trouble>
         requires sound { IsTrue (⟦<RollbackFiler<F> as Filer>⟧.is_sound self.old) }
         requires depth { length (⟦<RollbackFiler<F> as Filer>⟧.saved self.old) ≡ 1 }
@@ -153,6 +169,17 @@ impl<F: BaseFiler> RollbackFiler<F> {
             ≡ ⟦<RollbackFiler<F> as Filer>⟧.limit_of self.old }
         ensures sound { SoundAfter result (⟦<RollbackFiler<F> as Filer>⟧.is_sound self.new) }
         ensures refuses { Refuses (λ _ _. ⊥) ⊥ result }
+        ensures stops { Leaves (F.may_leave self.new.below) (IsEnded (F.content self.old.below)
+            (⟦<RollbackFiler<F> as Filer>⟧.content self.old)) }
+        ensures time { Adds (F.moment self.old.below) (F.moment self.new.below)
+            (F.left_since self.old.below) (F.left_since self.new.below)
+            (IsEnded (F.content self.old.below) (⟦<RollbackFiler<F> as Filer>⟧.content self.old))
+            (HasShown (F.told self.old.below)) }
+        ensures unwritten { OnErr result (IsTrue (⟦<RollbackFiler<F> as Filer>⟧.is_sound self.new)
+            → IsSameBut (F.content self.old.below) (F.content self.new.below)
+            (F.may_leave self.old.below) (F.may_leave self.new.below) (F.moment self.old.below)
+            (F.moment self.new.below) (F.left_since self.old.below) (F.left_since self.new.below)
+            (F.told self.old.below) (F.told self.new.below)) }
         ensures told { ⟦<RollbackFiler<F> as Shows>⟧.told self.new
             ≡ ⟦<RollbackFiler<F> as Shows>⟧.told self.old }
         ensures left { ⟦<RollbackFiler<F> as Shows>⟧.left self.new
@@ -182,6 +209,7 @@ pub(crate) fn zeros(alloc: Global, count: usize) -> Result<Vec<u8>, NoMemory>
 }
 
 /// The content of a filer.
+#[tactic(auto, using(lldb_base::specs::Stops::same_but_self))]
 fn read_all<F: BaseFiler>(alloc: Global, filer: &mut F) -> Result<Vec<u8>, Trouble>
     requires sound { IsTrue (F.is_sound filer.old) }
     ensures read { IfOk result (λ all. IfSome (F.content filer.old) (λ c. c ≡ all.items)) }
@@ -191,6 +219,9 @@ fn read_all<F: BaseFiler>(alloc: Global, filer: &mut F) -> Result<Vec<u8>, Troub
     ensures limit { F.limit_of filer.new ≡ F.limit_of filer.old }
     ensures sound { F.is_sound filer.new ≡ F.is_sound filer.old }
     ensures refuses { Refuses (λ _ _. ⊥) ⊥ result }
+    ensures stops { IsSameBut (F.content filer.old) (F.content filer.new) (F.may_leave filer.old)
+        (F.may_leave filer.new) (F.moment filer.old) (F.moment filer.new) (F.left_since filer.old)
+        (F.left_since filer.new) (F.told filer.old) (F.told filer.new) }
     ensures told { F.told filer.new ≡ F.told filer.old }
     ensures left { F.left filer.new ≡ F.left filer.old }
     ensures fixed { F.fixed filer.new ≡ F.fixed filer.old }
@@ -248,6 +279,12 @@ impl<F: BaseFiler> Filer for RollbackFiler<F> {
     ghost limit_of = { λ f. F.limit_of f.below };
 
     ghost is_sound = { λ f. F.is_sound f.below };
+
+    ghost may_leave = { λ f s. F.may_leave f.below s };
+
+    ghost moment = { λ f. F.moment f.below };
+
+    ghost left_since = { λ f t n s. F.left_since f.below t n s };
 
     fn size(&self) -> u64 {
         if self.changed {
@@ -310,12 +347,10 @@ impl<F: BaseFiler> Filer for RollbackFiler<F> {
             return self.store();
         }
         match self.copies.pop() {
-            Some(_) => Ok(()),
-            None => {
-                self.early -= 1;
-                Ok(())
-            }
+            Some(_) => return Ok(()),
+            None => self.early -= 1,
         }
+        Ok(())
     }
 
     fn rollback(&mut self) {
@@ -338,4 +373,14 @@ impl<F: BaseFiler> Filer for RollbackFiler<F> {
 
     ghost same_filer = { λ x y same. same_held same.1 same.2 (ap (λ v. v.items) same.4) same.5
         (F.same_filer x.below y.below same.0) };
+
+    ghost sound_stops = { λ f sound. only_below f.early f.changed f.present.items f.copies
+        (F.may_leave f.below) f.copied (F.sound_stops f.below sound) };
+
+    ghost counts_now = { λ f t s early left. F.counts_now f.below t s early left };
+
+    ghost only_now = { λ f n s left. F.only_now f.below n s left };
+
+    ghost same_stops = { λ x y same. same_below x.present.items y.present.items x.copied.untouched
+        x.copied.begun y.copied.untouched y.copied.begun (F.same_stops x.below y.below same.0) };
 }

@@ -1,0 +1,6 @@
+use Rattle.lldb_rollback.specs.Levels.{same_below}
+use Rattle.lldb_rollback.proofs.levels.RollbackFilerFiler.write_at.Goals as goal
+
+pub returns-clause-stops : goal.returns-clause-stops
+returns-clause-stops g c =
+    same_below c.args.self.now.present.items c.put_piece.new.bytes.items c.args.self.now.copied.untouched c.args.self.now.copied.begun c.take_copy.new.self.copied.untouched c.take_copy.new.self.copied.begun c.take_copy.ensures.stops
