@@ -4,3 +4,6 @@ pub mod Rows
 pub mod Walks
 pub mod Clean
 pub mod Marked
+pub mod Sees
+pub mod Ahead
+pub mod Aims

@@ -5,6 +5,13 @@ mod bits;
 mod finding;
 mod laws;
 mod log;
+mod place;
+mod reading;
+mod seen;
+mod targets;
+mod tell;
+mod tiles;
+mod window;
 
 pub use bits::Bits;
 pub use finding::{Finding, Stats, VerifyFault};
