@@ -108,7 +108,7 @@ named_more c named target bits marks v m marked is = λ q. marked q ∙ at q
     ]
 
 -- the same where the bit stays
-kept_mark : (bits : ℕ → Bool) (target : ℕ) (v : Bool) → bits target ≡ v → (q : ℕ) → bits q ≡ with_mark bits target v q
+pub kept_mark : (bits : ℕ → Bool) (target : ℕ) (v : Bool) → bits target ≡ v → (q : ℕ) → bits q ≡ with_mark bits target v q
 kept_mark bits target v is q = elim (cases_Bool (nat_eq q target)) [
   | inl here ↦ ap bits (eqb-true q target here) ∙ is ∙ sym (ap (λ (b : Bool). cond b v (bits q)) here)
   | inr other ↦ sym (ap (λ (b : Bool). cond b v (bits q)) other)
@@ -121,11 +121,11 @@ not_taken c named target bits m clear =
     record { right = sym u.0; marked = named_more c named target bits bits false m (kept_mark (is_set bits) target false clear) (sym u.1) }
 
 -- no block begins behind the last atom
-pub past_clear : (c named : List ℕ) (target : ℕ) (bits : Marks) → length c / 16 ≤ target → Marked c named bits → is_set bits target ≡ false
-past_clear c named target bits past m = m target ∙ ap (λ (b : Bool). b && not (is_used (extent_at 8 (row_of (blocks_from c 8)) target) && contains named target)) (none (tile_from 8 (blocks_from c 8) target) refl)
+pub tile_past : (c : List ℕ) (target : ℕ) → length c / 16 ≤ target → tile_from 8 (blocks_from c 8) target ≡ None
+tile_past c target past = none (tile_from 8 (blocks_from c 8) target) refl
   where
-    none : (o : Option Tile) → tile_from 8 (blocks_from c 8) target ≡ o → is_some o ≡ false
-    none None is = refl
+    none : (o : Option Tile) → tile_from 8 (blocks_from c 8) target ≡ o → tile_from 8 (blocks_from c 8) target ≡ None
+    none None is = is
     none (Some t) is =
         let s = tile_there (blocks_from c 8) c 8 target t refl is in
         let f = measured t (drop (16 * target) c) s.at in
@@ -134,6 +134,9 @@ past_clear c named target bits past m = m target ∙ ap (λ (b : Bool). b && not
         let left = length-drop (16 * target) c in
         let low = s.within in
         absurd (omega (arith, past, some, within, left, low))
+
+pub past_clear : (c named : List ℕ) (target : ℕ) (bits : Marks) → length c / 16 ≤ target → Marked c named bits → is_set bits target ≡ false
+past_clear c named target bits past m = m target ∙ ap (λ (o : Option Tile). is_some o && not (is_used (extent_at 8 (row_of (blocks_from c 8)) target) && contains named target)) (tile_past c target past)
 
 -- a target whose bit is set, by the block that is seen there
 pub taken_by : (c named : List ℕ) (target : ℕ) (bits marks : Marks) (s : Seen) (r : Bool) → Marked c named bits → is_set bits target ≡ true → Some s ≡ option_map seen_of (tile_at (drop (16 * target) c)) → r ≡ nat_eq (one_used s) 1 → ((q : ℕ) → is_set marks q ≡ with_mark (is_set bits) target (not r) q) → IsTaken c named target marks r

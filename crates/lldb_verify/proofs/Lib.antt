@@ -7,3 +7,5 @@ pub mod Marked
 pub mod Sees
 pub mod Ahead
 pub mod Aims
+pub mod Meets
+pub mod Sweeps

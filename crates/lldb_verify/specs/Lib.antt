@@ -5,3 +5,4 @@ pub mod Marks
 pub mod Reads
 pub mod Told
 pub mod Passes
+pub mod Met

@@ -4,6 +4,7 @@
 mod bits;
 mod finding;
 mod laws;
+mod lists;
 mod log;
 mod place;
 mod reading;
@@ -11,6 +12,7 @@ mod seen;
 mod targets;
 mod tell;
 mod tiles;
+mod unlisted;
 mod window;
 
 pub use bits::Bits;
