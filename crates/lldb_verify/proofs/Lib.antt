@@ -9,3 +9,5 @@ pub mod Ahead
 pub mod Aims
 pub mod Meets
 pub mod Sweeps
+pub mod Handles
+pub mod Verified

@@ -2,12 +2,13 @@
 use Rattle.std.proofs.Common.{◌≡◌, ℕ, zero, suc, ◌+◌, ◌*◌, ◌/◌, ◌^◌, ◌≤◌, ◌<◌, inl, inr, Bool, true, false, not, cond, ◌&&◌, ◌||◌, List, [], ◌∷◌, ◌++◌, length, drop, take, Option, Some, None, IfSome, Result, Ok, Err, is_some, is_none, option_map, refl, sym, ◌∙◌, ap, subst, append_assoc, ap₂, get_or, arith, nat_eq}
 use Rattle.std.proofs.lemmas.List.{append-nil, get_or-take}
 use Rattle.std.proofs.lemmas.Bool.{cases_Bool, and_parts, eqb-true, false≢true}
-use Rattle.byteorder.specs.Endian.{big_from, big_number}
+use Rattle.byteorder.specs.Endian.{big_number}
 use Rattle.lldb_atoms.specs.Numbers.{number_in}
 use Rattle.lldb_atoms.specs.Blocks.{Extent, Used, Compressed, Moved, Free, Hole, Tile, size, tile_at}
 use Rattle.lldb_atoms.specs.Laws.{is_block}
 use Rattle.lldb_atoms.specs.Rows.{extent_at, contains, targets}
 use Rattle.lldb_atoms.specs.Lists.{in_class, row_of, tile_from, list_head}
+use Rattle.lldb_blocks.proofs.Places.{same_number}
 use Rattle.lldb_verify.specs.declared.finding.Finding.{Finding}
 use Rattle.lldb_verify.specs.declared.finding.Finding.TheVariants as finding
 use Rattle.lldb_verify.specs.declared.finding.VerifyFault.{VerifyFault}
@@ -220,16 +221,11 @@ walk_short (Some c) class total first most before atom bits marks found is cut w
     walked_by c (walk (blocks_from c 8) class total met 0 first) k.met (cut_short class atom) marks found (sym k.same ∙ walk_out (blocks_from c 8) class most k.met before atom is) cut k.marked
 
 -- the head of a list as it is read
-same_from : (i n : ℕ) (xs ys : List ℕ) → ((k : ℕ) → k < i + n → get_or xs k 0 ≡ get_or ys k 0) → big_from i n xs ≡ big_from i n ys
-same_from i zero xs ys same = refl
-same_from i (suc n) xs ys same =
-    ap₂ (λ (a b : ℕ). a * 256 ^ n + b) (same i (omega arith)) (same_from (suc i) n xs ys (λ k low. same k (omega (arith, low))))
-
 pub list_read : (told : Option (List ℕ)) (bytes : List ℕ) (n class : ℕ) → IfSome told (λ c. bytes ≡ take 8 (drop (8 * class) c)) → n ≡ big_number 8 bytes → IfSome told (λ c. list_head c class ≡ n)
 unfolding list_head number_in
 list_read None bytes n class read is = tt
 list_read (Some c) bytes n class read is =
-    same_from 0 8 (drop (8 * class) c) bytes (λ k below. sym (get_or-take 8 (drop (8 * class) c) k 0 below) ∙ ap (λ (u : List ℕ). get_or u k 0) (sym read)) ∙ sym is
+    same_number 8 (drop (8 * class) c) bytes (λ k below. sym (get_or-take 8 (drop (8 * class) c) k 0 below) ∙ ap (λ (u : List ℕ). get_or u k 0) (sym read)) ∙ sym is
 
 -- a list is told
 pub list_refused : (told : Option (List ℕ)) (w : List ℕ → List ℕ → Walk) (bits marks : Marks) (now : List Finding) (bound : Option ℕ) (e : VerifyFault) → OfDevice {T = Unit {0}} (Err e) → IfSome told (λ c. (met : List ℕ) → Unmet c met bits → Lists c (w c met) now bound marks now (Err e))

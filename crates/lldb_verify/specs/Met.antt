@@ -102,6 +102,10 @@ Verifies c bound bits now (Err (fault.Stopped last)) = IsStop bound last now (fi
 Verifies c bound bits now (Err fault.Failed) = IsFront now (findings c)
 Verifies c bound bits now (Err fault.NoMemory) = IsFront now (findings c)
 
+-- all that is found is that a content of so many bytes is not whole atoms behind a table
+abbrev pub IsOdd : List ℕ → ℕ → Type 0
+IsOdd c bytes = findings c ≡ finding.BadLength bytes ∷ []
+
 -- the passes told all; where the blocks take the whole content there are numbers, and the bits are those at the handles if
 -- nothing was found
 abbrev pub Passing : List ℕ → Option ℕ → Marks → List Finding → Result (Option Stats) VerifyFault → Type 0

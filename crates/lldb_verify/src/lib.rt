@@ -13,12 +13,14 @@ mod targets;
 mod tell;
 mod tiles;
 mod unlisted;
+mod verifier;
 mod window;
 
 pub use bits::Bits;
 pub use finding::{Finding, Stats, VerifyFault};
 pub use laws::findings_laws;
 pub use log::{AllLog, FaultLog, FirstLog};
+pub use verifier::verify;
 
 #[cfg(test)]
 mod tests;
