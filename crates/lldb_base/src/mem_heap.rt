@@ -3,12 +3,12 @@ ghost use Rattle.std.specs.Prelude.{◌≡◌, ◌≤◌, ◌^◌, ◌<◌, ◌+
 ghost use Rattle.std.proofs.Common.{◌∙◌, ap, sym};
 ghost use Rattle.std.proofs.Props.{props};
 ghost use Rattle.std.proofs.lemmas.List.{length-replicate, length-map};
-ghost use Rattle.ql_edge.specs.Stops.{Leaves, HasShown, Adds, IsSameBut};
+ghost use Rattle.ql_edge.specs.Stops.{IsSameBut};
 ghost use Rattle.lldb_base.specs.Contents.{AreContents, content_of, with_content, without, atoms_for};
 ghost use Rattle.lldb_base.specs.Heaps.{MayBeDead, IsGrown, IsFull};
 ghost use Rattle.lldb_base.specs.Memory.{Stood, are_risen, mem_counts, mem_only, kept_only, kept_same};
 ghost use Rattle.lldb_base.specs.Shown.{count_shown, shown_again, shown_more};
-ghost use Rattle.lldb_base.specs.Stops.{IsEnded, kept_of};
+ghost use Rattle.lldb_base.specs.Stops.{kept_of};
 ghost use Rattle.lldb_base.specs.Trouble.{IsCausedTrouble, Refuses};
 
 use crate::maps::{Maps, copy_map, put_entry};
