@@ -9,9 +9,10 @@ use Rattle.lldb_atoms.specs.Lists.{in_class, class_of, row_of, list_head, list_o
 use Rattle.lldb_atoms.specs.Sound.{tiles_in, tiling, is_sound_tiling, sound_tiling, is_sound}
 use Rattle.lldb_atoms.proofs.Listed.{class_below}
 use Rattle.lldb_atoms.proofs.Tiled.{found_tiles}
+use Rattle.lldb_blocks.specs.Laid.{Solid}
 use Rattle.lldb_verify.specs.Findings.{unless, blocks, of_blocks, is_used, of_targets, walk, of_lists, of_free, of_unlisted, of_whole, of_content, has_length, findings}
 use Rattle.lldb_verify.specs.Laws.{IsClean}
-use Rattle.lldb_verify.proofs.Wholes.{Solid, tiles_blocks, blocks_tiles, blocks_solid, tiles_whole}
+use Rattle.lldb_verify.proofs.Wholes.{tiles_blocks, blocks_tiles, blocks_solid, tiles_whole}
 use Rattle.lldb_verify.proofs.Rows.{both_empty, none_of, test_of, false_of_not, Spaced, blocks_clean, blocks_none, used_same, Aims, targets_clean, targets_none}
 use Rattle.lldb_verify.proofs.Walks.{free_of_class, Went, walk_clean, Good, walk_none}
 use Rattle.lldb_verify.specs.declared.finding.Finding.TheVariants as finding
@@ -289,10 +290,10 @@ whole_none content tiles is =
 abbrev judged : List ℕ → List Tile → Option (List Tile)
 judged content tiles = cond (is_sound_tiling content tiles) (Some tiles) None
 
--- a content of whole atoms in which nothing is found is sound
-content_clean : (content : List ℕ) → has_length content ≡ true → of_content content (blocks content) ≡ [] → is_sound content ≡ true
+-- the blocks of a content of whole atoms in which nothing is found make it sound
+content_tiling : (content : List ℕ) → has_length content ≡ true → of_content content (blocks content) ≡ [] → (sound_tiling content ≡ Some (blocks content)) × (is_sound_tiling content (blocks content) ≡ true)
 unfolding sound_tiling tiling
-content_clean content long is =
+content_tiling content long is =
     let tiles = blocks content in
     let row = row_of tiles in
     let atoms = length content / 16 in
@@ -308,8 +309,10 @@ content_clean content long is =
     let tiled : tiles_in (length content) (drop 128 content) ≡ Some tiles = blocks_tiles (length content) (drop 128 content) (omega (arith, left)) (omega (arith, left, low, even, sum, whole)) in
     let tiling_is : cond (nat_le 128 (length content)) (tiles_in (length content) (drop 128 content)) None ≡ Some tiles = ap (λ (b : Bool). cond b (tiles_in (length content) (drop 128 content)) None) parts.0 ∙ tiled in
     let sound = whole_clean content tiles atoms (blocks_solid (length content) (drop 128 content)).0 s inner in
-    ap (λ (o : Option (List Tile)). is_some (option_and_then (judged content) o)) tiling_is
-    ∙ ap (λ (b : Bool). is_some (cond b (Some tiles) None)) sound
+    (ap (option_and_then (judged content)) tiling_is ∙ ap (λ (b : Bool). cond b (Some tiles) None) sound, sound)
+
+content_clean : (content : List ℕ) → has_length content ≡ true → of_content content (blocks content) ≡ [] → is_sound content ≡ true
+content_clean content long is = ap (λ (o : Option (List Tile)). is_some o) (content_tiling content long is).0
 
 judged_some : (content : List ℕ) (o : Option (List Tile)) → is_some (option_and_then (judged content) o) ≡ true → (tiles : List Tile) × (o ≡ Some tiles) × (is_sound_tiling content tiles ≡ true)
 judged_some content None is = absurd (false≢true is)
@@ -352,6 +355,14 @@ findings_clean [] is = inl refl
 findings_clean (b ∷ bs) is =
     let test = test_of (has_length (b ∷ bs)) (of_content (b ∷ bs) (blocks (b ∷ bs))) (finding.BadLength (length (b ∷ bs))) is in
     inr (content_clean (b ∷ bs) test.0 test.1)
+
+-- the same of a content with bytes, with the blocks that make it sound
+pub findings_tiling : (content : List ℕ) → 1 ≤ length content → findings content ≡ [] → (sound_tiling content ≡ Some (blocks content)) × (is_sound_tiling content (blocks content) ≡ true)
+unfolding findings
+findings_tiling [] some is = absurd (omega (arith, some))
+findings_tiling (b ∷ bs) some is =
+    let test = test_of (has_length (b ∷ bs)) (of_content (b ∷ bs) (blocks (b ∷ bs))) (finding.BadLength (length (b ∷ bs))) is in
+    content_tiling (b ∷ bs) test.0 test.1
 
 pub findings_none : (content : List ℕ) → IsClean content → findings content ≡ []
 unfolding findings

@@ -4,3 +4,10 @@ pub mod Rows
 pub mod Walks
 pub mod Clean
 pub mod Marked
+pub mod Sees
+pub mod Ahead
+pub mod Aims
+pub mod Meets
+pub mod Sweeps
+pub mod Handles
+pub mod Verified

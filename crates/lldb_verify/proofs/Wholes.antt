@@ -1,19 +1,15 @@
 -- Contents as blocks up to where none stands, and as tilings.
 use Rattle.std.proofs.Common.{◌≡◌, ℕ, zero, suc, ◌+◌, ◌*◌, ◌≤◌, List, [], ◌∷◌, length, drop, Option, Some, None, option_and_then, option_map, refl, ◌∙◌, ap, length-append, length-drop, arith}
 use Rattle.std.proofs.lemmas.Option.{option_and_then_some}
-use Rattle.lldb_atoms.specs.Blocks.{Extent, Tile, size, tile_at}
+use Rattle.lldb_atoms.specs.Blocks.{Tile, size, tile_at}
 use Rattle.lldb_atoms.specs.Rows.{atoms_in}
 use Rattle.lldb_atoms.specs.Lists.{row_of}
 use Rattle.lldb_atoms.specs.Sound.{tiles_in}
 use Rattle.lldb_atoms.specs.Laws.{AreTiles}
 use Rattle.lldb_atoms.proofs.Says.{tile_says}
 use Rattle.lldb_atoms.proofs.Tiled.{size_some}
+use Rattle.lldb_blocks.specs.Laid.{Solid}
 use Rattle.lldb_verify.specs.Findings.{with_rest, blocks_in}
-
--- no block is without atoms
-abbrev pub Solid : List Extent → Type 0
-Solid [] = Unit {0}
-Solid (e ∷ row) = (1 ≤ size e) × Solid row
 
 -- how long a block is that is read at the front of bytes
 pub record Measured (tile : Tile) (bytes : List ℕ) : Type 0 where
