@@ -1,21 +1,21 @@
 -- Where nothing is found, the bits are those at the handles.
-use Rattle.std.proofs.Common.{◌≡◌, ℕ, ◌+◌, ◌*◌, ◌≤◌, ◌<◌, inl, inr, Bool, true, false, not, cond, ◌&&◌, ◌||◌, List, [], ◌∷◌, ◌++◌, length, drop, Option, Some, None, is_some, option_and_then, option_map, refl, sym, ◌∙◌, ap, subst, arith, nat_eq}
+use Rattle.std.proofs.Common.{◌≡◌, ℕ, ◌+◌, ◌*◌, ◌≤◌, inl, inr, Bool, true, false, not, cond, ◌&&◌, ◌||◌, List, [], ◌∷◌, ◌++◌, length, drop, Option, Some, None, is_some, option_and_then, option_map, refl, sym, ◌∙◌, ap, subst, arith, nat_eq}
 use Rattle.std.proofs.lemmas.Bool.{cases_Bool, and_parts, eq-eqb, eqb-true, false≢true, or_right}
-use Rattle.lldb_base.specs.Contents.{Contents, content_of}
-use Rattle.lldb_atoms.specs.Blocks.{Extent, Used, Compressed, Moved, Free, Hole, Tile, size, is_free, tile_at}
+use Rattle.lldb_base.specs.Contents.{content_of}
+use Rattle.lldb_atoms.specs.Blocks.{Extent, Used, Compressed, Moved, Free, Hole, Tile, size}
 use Rattle.lldb_atoms.specs.Laws.{is_block}
 use Rattle.lldb_atoms.specs.Rows.{extent_at, contains, target_of, targets, used_content, are_distinct, are_used, are_spaced, ends_free, heap}
 use Rattle.lldb_atoms.specs.Lists.{in_class, row_of, tile_from, are_listed}
 use Rattle.lldb_atoms.specs.Sound.{is_sound_tiling, sound_tiling, heap_in}
 use Rattle.lldb_atoms.proofs.Says.{tile_says}
 use Rattle.lldb_blocks.proofs.Heaps.{meant, heap_at}
-use Rattle.lldb_verify.specs.Findings.{unless, blocks, is_used, of_lists, of_free, of_unlisted, findings}
+use Rattle.lldb_verify.specs.Findings.{is_used, of_lists, of_free, of_unlisted, findings}
 use Rattle.lldb_verify.specs.declared.finding.Finding.TheVariants as finding
 use Rattle.lldb_verify.specs.Marks.{Marks, is_set}
 use Rattle.lldb_verify.specs.Met.{Unmet, is_handle}
 use Rattle.lldb_verify.specs.Passes.{blocks_from}
 use Rattle.lldb_verify.proofs.Aims.{tile_there}
-use Rattle.lldb_verify.proofs.Clean.{at_member, Done, lists_none, unlisted_none, findings_tiling}
+use Rattle.lldb_verify.proofs.Clean.{at_member, lists_none, unlisted_none, findings_tiling}
 use Rattle.lldb_verify.proofs.Rows.{both_empty, test_of, used_same}
 use Rattle.lldb_verify.proofs.Walks.{extent_there}
 use Rattle.lldb_verify.proofs.Wholes.{blocks_solid}

@@ -1,10 +1,10 @@
 -- How the third pass follows the lists.
-use Rattle.std.proofs.Common.{◌≡◌, ℕ, zero, suc, ◌+◌, ◌*◌, ◌/◌, ◌^◌, ◌≤◌, ◌<◌, inl, inr, Bool, true, false, not, cond, ◌&&◌, ◌||◌, List, [], ◌∷◌, ◌++◌, length, drop, take, Option, Some, None, IfSome, Result, Ok, Err, is_some, is_none, option_map, refl, sym, ◌∙◌, ap, subst, append_assoc, ap₂, get_or, arith, nat_eq}
+use Rattle.std.proofs.Common.{◌≡◌, ℕ, zero, suc, ◌+◌, ◌*◌, ◌/◌, ◌≤◌, inl, inr, Bool, true, false, not, cond, ◌&&◌, ◌||◌, List, [], ◌∷◌, ◌++◌, length, drop, take, Option, Some, None, IfSome, Ok, Err, is_some, is_none, option_map, refl, sym, ◌∙◌, ap, subst, append_assoc, get_or, arith, nat_eq}
 use Rattle.std.proofs.lemmas.List.{append-nil, get_or-take}
-use Rattle.std.proofs.lemmas.Bool.{cases_Bool, and_parts, eqb-true, false≢true}
+use Rattle.std.proofs.lemmas.Bool.{cases_Bool, and_parts, false≢true}
 use Rattle.byteorder.specs.Endian.{big_number}
 use Rattle.lldb_atoms.specs.Numbers.{number_in}
-use Rattle.lldb_atoms.specs.Blocks.{Extent, Used, Compressed, Moved, Free, Hole, Tile, size, tile_at}
+use Rattle.lldb_atoms.specs.Blocks.{Extent, Used, Compressed, Moved, Free, Hole, Tile, tile_at}
 use Rattle.lldb_atoms.specs.Laws.{is_block}
 use Rattle.lldb_atoms.specs.Rows.{extent_at, contains, targets}
 use Rattle.lldb_atoms.specs.Lists.{in_class, row_of, tile_from, list_head}
@@ -20,9 +20,8 @@ use Rattle.lldb_verify.specs.Met.{Unmet, link_of, Follows, cut_short, Walking, I
 use Rattle.lldb_verify.specs.Passes.{blocks_from, Marked}
 use Rattle.lldb_verify.specs.Reads.{seen_as, seen_of}
 use Rattle.lldb_verify.specs.Told.{Tells, IsFront, OfDevice}
-use Rattle.lldb_verify.proofs.Wholes.{measured}
 use Rattle.lldb_verify.proofs.Walks.{extent_there}
-use Rattle.lldb_verify.proofs.Ahead.{IsSeen, seen_there, none_there, stopped_more}
+use Rattle.lldb_verify.proofs.Ahead.{seen_there, none_there, stopped_more}
 use Rattle.lldb_verify.proofs.Aims.{tile_there, kept_mark, front_refused, tile_past}
 
 and_false : (b : Bool) → (b && false) ≡ false

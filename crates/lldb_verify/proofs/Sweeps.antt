@@ -1,11 +1,11 @@
 -- How the last pass goes from block to block.
-use Rattle.std.proofs.Common.{◌≡◌, ℕ, ◌+◌, ◌*◌, ◌/◌, ◌%◌, ◌<◌, Bool, true, false, not, cond, ◌&&◌, ◌||◌, IsTrue, List, [], ◌∷◌, ◌++◌, length, drop, Option, Some, None, IfSome, Ok, Err, is_some, option_map, refl, sym, ◌∙◌, ap, subst, append_assoc, arith, nat_eq}
+use Rattle.std.proofs.Common.{◌≡◌, ℕ, ◌+◌, ◌*◌, ◌/◌, ◌%◌, ◌<◌, Bool, true, false, not, cond, ◌&&◌, ◌||◌, List, [], ◌∷◌, ◌++◌, length, drop, Option, Some, None, IfSome, Ok, Err, is_some, option_map, refl, sym, ◌∙◌, ap, subst, append_assoc, arith, nat_eq}
 use Rattle.std.proofs.Math.Nat.{mod-add-div'}
 use Rattle.std.proofs.lemmas.List.{append-nil}
 use Rattle.std.proofs.lemmas.Bool.{eq-eqb, false≢true}
 use Rattle.lldb_atoms.specs.Blocks.{Extent, Used, Compressed, Moved, Free, Hole, Tile, size, is_free, tile_at}
 use Rattle.lldb_atoms.specs.Laws.{is_block}
-use Rattle.lldb_atoms.specs.Rows.{extent_at, contains, targets}
+use Rattle.lldb_atoms.specs.Rows.{contains, targets}
 use Rattle.lldb_atoms.specs.Lists.{row_of, tile_from}
 use Rattle.lldb_verify.specs.declared.finding.Finding.{Finding}
 use Rattle.lldb_verify.specs.declared.finding.Finding.TheVariants as finding

@@ -1,24 +1,22 @@
 -- How the passes make up the verifier.
-use Rattle.std.proofs.Common.{◌≡◌, ℕ, zero, suc, ◌+◌, ◌*◌, ◌/◌, ◌%◌, ◌≤◌, ◌<◌, inl, inr, Bool, true, false, not, cond, ◌&&◌, List, [], ◌∷◌, ◌++◌, length, drop, Option, Some, None, IfSome, Result, Ok, Err, is_some, refl, sym, ◌∙◌, ap, subst, append_assoc, arith, nat_eq, nat_le}
+use Rattle.std.proofs.Common.{◌≡◌, ℕ, ◌+◌, ◌/◌, ◌%◌, ◌≤◌, ◌<◌, Bool, true, false, not, cond, ◌&&◌, List, [], ◌∷◌, ◌++◌, length, Option, Some, None, IfSome, Result, Ok, Err, refl, sym, ◌∙◌, ap, subst, append_assoc, arith, nat_eq, nat_le}
 use Rattle.std.proofs.lemmas.List.{append-nil}
-use Rattle.std.proofs.lemmas.Bool.{cases_Bool, and_parts, and_from, eq-eqb, eqb-true, leb-true, le-leb, lt-leb, ne_eqb, false≢true}
-use Rattle.lldb_atoms.specs.Rows.{atoms_in, targets}
-use Rattle.lldb_atoms.specs.Lists.{row_of, tile_from}
+use Rattle.std.proofs.lemmas.Bool.{and_from, eq-eqb, le-leb, lt-leb, ne_eqb, false≢true}
+use Rattle.lldb_atoms.specs.Rows.{atoms_in}
+use Rattle.lldb_atoms.specs.Lists.{row_of}
 use Rattle.lldb_verify.specs.declared.finding.Finding.{Finding}
 use Rattle.lldb_verify.specs.declared.finding.Finding.TheVariants as finding
 use Rattle.lldb_verify.specs.declared.finding.Stats.{Stats}
 use Rattle.lldb_verify.specs.declared.finding.VerifyFault.{VerifyFault}
-use Rattle.lldb_verify.specs.declared.finding.VerifyFault.TheVariants as fault
 use Rattle.lldb_atoms.specs.Sound.{heap_in}
 use Rattle.lldb_verify.specs.Findings.{blocks, blocks_in, of_blocks, of_targets, of_lists, of_unlisted, of_whole, of_content, has_length, findings}
-use Rattle.lldb_verify.specs.Logs.{has_room}
 use Rattle.lldb_verify.specs.Marks.{Marks, is_set}
-use Rattle.lldb_verify.specs.Met.{Unmet, Lists, links_of, is_handle, IsOdd, IsSoundSeen, Passing, Verifies}
-use Rattle.lldb_verify.specs.Passes.{blocks_from, stats_of, IsStuck, Passed, AllAimed, Passes}
-use Rattle.lldb_verify.specs.Told.{Tells, IsFront, OfDevice}
+use Rattle.lldb_verify.specs.Met.{Unmet, Lists, links_of, IsOdd, IsSoundSeen, Passing, Verifies}
+use Rattle.lldb_verify.specs.Passes.{blocks_from, IsStuck, Passed, AllAimed, Passes}
+use Rattle.lldb_verify.specs.Told.{Tells}
 use Rattle.lldb_verify.proofs.Ahead.{stopped_more}
 use Rattle.lldb_verify.proofs.Handles.{handles_marked}
-use Rattle.lldb_verify.proofs.Rows.{Spaced, blocks_clean}
+use Rattle.lldb_verify.proofs.Rows.{blocks_clean}
 
 -- what is found at relocated blocks, along the lists, and at unlisted blocks
 abbrev pub of_aims : List ℕ → List Finding
@@ -79,8 +77,7 @@ some_of (x ∷ xs) not = omega arith
 pub whole_stuck : (told : Option (List ℕ)) (total : ℕ) (bits : Marks) (before now : List Finding) (bound : Option ℕ) → IfSome told (λ c. length c ≡ total) → 128 ≤ total → total % 16 ≡ 0 → before ≡ [] → IfSome told (λ c. IsStuck c (before ++ along_blocks c) now) → IfSome told (λ c. Passing c bound bits now (Ok None))
 whole_stuck None total bits before now bound long low even empty s = tt
 whole_stuck (Some c) total bits before now bound long low even empty s =
-    let same : findings c ≡ along_blocks c = found_whole c (omega (arith, long, low)) (ap (λ (n : ℕ). n % 16) long ∙ even) ∙ ap (λ (b : Bool). along_blocks c ++ cond b (of_whole c (blocks_from c 8)) []) s.short ∙ append-nil (along_blocks c) in
-    (
+    let same : findings c ≡ along_blocks c = found_whole c (omega (arith, long, low)) (ap (λ (n : ℕ). n % 16) long ∙ even) ∙ ap (λ (b : Bool). along_blocks c ++ cond b (of_whole c (blocks_from c 8)) []) s.short ∙ append-nil (along_blocks c) in (
       s.told ∙ ap (λ (fs : List Finding). fs ++ along_blocks c) empty ∙ sym same,
       some_of (findings c) (λ none. false≢true (sym s.short ∙ eq-eqb (8 + atoms_in (row_of (blocks_from c 8))) (length c / 16) (blocks_clean (length c / 16) None 8 (row_of (blocks_from c 8)) (sym same ∙ none)).whole)),
     )

@@ -1,7 +1,7 @@
 -- Contents as blocks up to where none stands, and as tilings.
 use Rattle.std.proofs.Common.{◌≡◌, ℕ, zero, suc, ◌+◌, ◌*◌, ◌≤◌, List, [], ◌∷◌, length, drop, Option, Some, None, option_and_then, option_map, refl, ◌∙◌, ap, length-append, length-drop, arith}
 use Rattle.std.proofs.lemmas.Option.{option_and_then_some}
-use Rattle.lldb_atoms.specs.Blocks.{Extent, Tile, size, tile_at}
+use Rattle.lldb_atoms.specs.Blocks.{Tile, size, tile_at}
 use Rattle.lldb_atoms.specs.Rows.{atoms_in}
 use Rattle.lldb_atoms.specs.Lists.{row_of}
 use Rattle.lldb_atoms.specs.Sound.{tiles_in}

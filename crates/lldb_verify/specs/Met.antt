@@ -1,6 +1,6 @@
 -- What was met along the lists of free blocks, and what a verifier did as a whole.
-use Rattle.std.specs.Prelude.{◌≡◌, ℕ, zero, suc, ◌+◌, ◌/◌, ◌≤◌, Bool, true, false, not, ◌&&◌, nat_eq, if◌then◌else◌, List, [], ◌∷◌, ◌++◌, length, Option, Some, None, is_some, option_and_then, Result, Ok, Err}
-use Rattle.lldb_base.specs.Contents.{Contents, content_of}
+use Rattle.std.specs.Prelude.{◌≡◌, ℕ, zero, suc, ◌/◌, ◌≤◌, Bool, true, false, not, ◌&&◌, nat_eq, if◌then◌else◌, List, [], ◌∷◌, ◌++◌, length, Option, Some, None, is_some, option_and_then, Result, Ok, Err}
+use Rattle.lldb_base.specs.Contents.{content_of}
 use Rattle.lldb_atoms.specs.Rows.{extent_at, contains, targets}
 use Rattle.lldb_atoms.specs.Lists.{class_of, row_of, tile_from}
 use Rattle.lldb_atoms.specs.Sound.{heap_in}

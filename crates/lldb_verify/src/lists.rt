@@ -46,7 +46,11 @@ fn linked(class: u8, before: u64, seen: &Seen) -> Option<u64>
             previous,
             next,
         } => {
-            if class_of(atoms) == class && previous == before { Some(next) } else { None }
+            if class_of(atoms) == class && previous == before {
+                Some(next)
+            } else {
+                None
+            }
         }
         Seen::Used { .. } => None,
         Seen::Compressed { .. } => None,
@@ -97,7 +101,11 @@ fn follow<F: Filer>(
 fn run_out(class: u8, atom: u64) -> Option<Finding>
     ensures { kept_one result ≡ cut_short class atom }
 {
-    if atom == 0 { None } else { Some(Finding::BadLink { class, atom }) }
+    if atom == 0 {
+        None
+    } else {
+        Some(Finding::BadLink { class, atom })
+    }
 }
 
 /// Follows the list of a class from its first atom on, and answers what is found along it.

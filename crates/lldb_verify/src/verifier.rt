@@ -61,7 +61,11 @@ fn answer(log: &Box<dyn FaultLog>, numbers: Option<Stats>) -> Result<Stats, Veri
     let count = told(log);
     match numbers {
         Some(stats) => {
-            if count == 0 { Ok(stats) } else { Err(VerifyFault::Found { count }) }
+            if count == 0 {
+                Ok(stats)
+            } else {
+                Err(VerifyFault::Found { count })
+            }
         }
         None => Err(VerifyFault::Found { count }),
     }

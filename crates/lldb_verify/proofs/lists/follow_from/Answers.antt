@@ -1,4 +1,4 @@
-use Rattle.std.proofs.Common.{ℕ, suc, ◌≡◌, ◌-◌, List, Option, IfSome, sym, ◌∙◌, subst, arith}
+use Rattle.std.proofs.Common.{ℕ, ◌-◌, List, Option, IfSome, sym, ◌∙◌, subst, arith}
 use Rattle.lldb_verify.specs.Met.{Unmet, Follows}
 use Rattle.lldb_verify.proofs.Ahead.{held_same}
 use Rattle.lldb_verify.proofs.Meets.{walk_on, walk_stopped, walk_ended, walk_short}

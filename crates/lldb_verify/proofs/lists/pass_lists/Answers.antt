@@ -1,9 +1,8 @@
-use Rattle.std.proofs.Common.{ℕ, suc, ◌+◌, ◌-◌, List, Option, Ok, Err, IsTrue, length, IfSome, Result, refl, sym, ◌∙◌, subst, arith}
-use Rattle.lldb_atoms.specs.Lists.{row_of}
+use Rattle.std.proofs.Common.{ℕ, ◌+◌, ◌-◌, Option, IsTrue, length, IfSome, Result, refl, sym, ◌∙◌, subst, arith}
 use Rattle.lldb_verify.specs.declared.finding.VerifyFault.{VerifyFault}
 use Rattle.lldb_verify.specs.Findings.{of_lists}
 use Rattle.lldb_verify.specs.Logs.{has_room}
-use Rattle.lldb_verify.specs.Met.{Unmet, Lists}
+use Rattle.lldb_verify.specs.Met.{Lists}
 use Rattle.lldb_verify.specs.Passes.{blocks_from}
 use Rattle.lldb_verify.proofs.Ahead.{by_fault, held_same}
 use Rattle.lldb_verify.proofs.Meets.{lists_first, lists_on, lists_wrong}

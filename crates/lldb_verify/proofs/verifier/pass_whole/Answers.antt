@@ -1,4 +1,4 @@
-use Rattle.std.proofs.Common.{ℕ, ◌/◌, ◌++◌, Option, None, Ok, IfSome, Result, length, subst}
+use Rattle.std.proofs.Common.{◌/◌, ◌++◌, Option, None, Ok, IfSome, Result, length, subst}
 use Rattle.lldb_atoms.specs.Lists.{row_of}
 use Rattle.lldb_verify.specs.declared.finding.Stats.{Stats}
 use Rattle.lldb_verify.specs.declared.finding.VerifyFault.{VerifyFault}
