@@ -12,6 +12,7 @@ A resolved expression is a tuple:
     ("narrow", kind, part)             what was computed without a kind, in int64, and has to fit this one
     ("call", function, parts), ("in", part, list), ("between", part, low, high), ("is null", part)
 """
+import itertools
 from dataclasses import dataclass, replace
 
 from check import trees
@@ -344,8 +345,15 @@ def fields_of(select, sets):
     fields = []
     for expr, alias in select.fields:
         name = alias or (expr.name if isinstance(expr, trees.Column) else None)
-        fields.append((name, settled(judge(expr, Scope(sets, aggregates=True)))))
+        fields.append((name, judge(expr, Scope(sets, aggregates=True))))
     return fields
+
+
+def seen_as(field, kind):
+    """What ORDER BY takes a field for, which is for a column of a kind, or for none."""
+    if field.kind == UNTYPED and kind in RANGES:
+        return kind
+    return settled(field).kind
 
 
 def counted(tree):
@@ -354,14 +362,15 @@ def counted(tree):
         raise Refused(5)
 
 
-def plan_of(select, schema):
-    """The plan of a SELECT, or its first refusal."""
+def plan_of(select, schema, kinds=()):
+    """The plan of a SELECT, or its first refusal. In an INSERT its fields are for columns of these kinds."""
     sets, width = record_sets(select, schema)
     filtered(select.where, Scope(sets))
     groups = [judge(column, Scope(sets)) for column in select.groups]
     fields = fields_of(select, sets)
     grouped = bool(groups) or any(has_aggregate(expr) for expr, _ in select.fields or [])
-    named = [(name, field.kind, width + i) for i, (name, field) in enumerate(fields)]
+    met = itertools.zip_longest(fields, kinds[: len(fields)])
+    named = [(name, seen_as(field, kind), width + i) for i, ((name, field), kind) in enumerate(met)]
     scope = Scope(sets, named, row=not (select.distinct or grouped))
     keys = [judge(key, scope) for key in select.keys]
     counted(select.limit)
@@ -380,11 +389,13 @@ class Schema:
 
 @dataclass
 class Change:
-    """The plan of an INSERT, an UPDATE or a DELETE: the columns by their numbers, their new values, or how many rows."""
+    """The plan of an INSERT, an UPDATE or a DELETE: the columns by their numbers, their new values, how many rows, or the
+    SELECT whose rows they are."""
 
     targets: list
     values: list
     rows: int = 0
+    select: Plan | None = None
 
 
 def reserved(name):
@@ -454,17 +465,37 @@ def for_column(checked, kind):
     return checked
 
 
+def target(name, names, targets):
+    """The number of a column that is named behind others."""
+    if name not in names:
+        raise Refused(2, name)
+    if names.index(name) in targets:
+        raise Refused(3, name)
+    return names.index(name)
+
+
+def for_columns(values, kinds):
+    if len(values) != len(kinds):
+        raise Refused(6)
+    for value, kind in zip(values, kinds):
+        for_column(value, kind)
+
+
 def insert(statement, schema):
     columns = changed(statement.table, schema)
-    if statement.names or statement.rows is None:
-        raise Refused(10)
+    targets = []
+    for name in statement.names:
+        targets.append(target(name, [each for each, _ in columns], targets))
+    if not statement.names:
+        targets = list(range(len(columns)))
+    kinds = [columns[at][1] for at in targets]
+    if statement.select is not None:
+        plan = plan_of(statement.select, schema, kinds)
+        for_columns([field for _, field in plan.fields], kinds)
+        return Change(targets, [], select=plan)
     for row in statement.rows:
-        values = [judge(expr, Scope([])) for expr in row]
-        if len(values) != len(columns):
-            raise Refused(6)
-        for value, (_, kind) in zip(values, columns):
-            for_column(value, kind)
-    return Change(list(range(len(columns))), [], len(statement.rows))
+        for_columns([judge(expr, Scope([])) for expr in row], kinds)
+    return Change(targets, [], len(statement.rows))
 
 
 def update(statement, schema):
@@ -472,11 +503,7 @@ def update(statement, schema):
     scope = Scope([RecordSet(statement.table, columns, 0)])
     names, targets, values = [name for name, _ in columns], [], []
     for name, expr in statement.sets:
-        if name not in names:
-            raise Refused(2, name)
-        if names.index(name) in targets:
-            raise Refused(3, name)
-        targets.append(names.index(name))
+        targets.append(target(name, names, targets))
         values.append(for_column(judge(expr, scope), columns[targets[-1]][1]))
     filtered(statement.where, scope)
     return Change(targets, values)
@@ -523,8 +550,9 @@ def plan_line(plan):
 def change_line(change):
     if change is None:
         return "ok"
-    if change.rows:
-        return "ok INTO " + ", ".join(map(str, change.targets)) + f" ROWS {change.rows}"
+    if change.select or change.rows:
+        rows = change.select and " SELECT" + plan_line(change.select).removeprefix("ok") or f" ROWS {change.rows}"
+        return "ok INTO " + ", ".join(map(str, change.targets)) + rows
     return "ok SET " + ", ".join(f"{at} = {shown(None, value)}" for at, value in zip(change.targets, change.values))
 
 

@@ -225,6 +225,25 @@ STATEMENTS = [
         ({"7 ConstantRange": "-1", "5 Type": "true"}, "NULL"),
     ),
     (
+        "INSERT INTO {0} ({1}, {2}) VALUES ({3}, {4})",
+        (TABLE, "u"),
+        ({"2 NoColumn nosuch": "nosuch"}, "b"),
+        ({"2 NoColumn nosuch": "nosuch", "3 Ambiguous b": "b"}, "a"),
+        (SEES_NOTHING, "1"),
+        ({"6 Count": "1, 1", "7 ConstantRange": "256", "5 Type": '"x"'}, "1"),
+    ),
+    (
+        "INSERT INTO {0} ({1}, {2}) SELECT {4}, {7} FROM {3} ORDER BY {5} LIMIT {6}",
+        (TABLE, "u"),
+        ({"2 NoColumn nosuch": "nosuch"}, "b"),
+        ({"2 NoColumn nosuch": "nosuch", "3 Ambiguous b": "b"}, "a"),
+        ({"1 NoTable nosuch": "nosuch", "10 Later": "__Table"}, "u"),
+        (SEES_TABLE, "1"),
+        (SEES_TABLE, "b"),
+        (SEES_NOTHING, "1"),
+        ({"6 Count": "1, 1", "7 ConstantRange": "256", "5 Type": '"x"'}, "1"),
+    ),
+    (
         "UPDATE {0} SET b = {1}, {2} = {3} WHERE {4}",
         (TABLE, "t"),
         (FOR_INT8, "1"),
@@ -261,10 +280,14 @@ def at_the_ends():
     for kind, (least, greatest) in LEAST_AND_GREATEST.items():
         table = f"CREATE TABLE v (k {kind}); "
         yield f"{table}INSERT INTO v VALUES ({least}), ({greatest})", "ok INTO 0 ROWS 2"
+        yield f"{table}INSERT INTO v (k) VALUES ({least}), ({greatest})", "ok INTO 0 ROWS 2"
+        yield f"{table}INSERT INTO v SELECT {least}; INSERT INTO v SELECT {greatest}", "ok INTO 0 SELECT - | ok INTO 0 SELECT -"
         yield f"{table}UPDATE v SET k = {least}; UPDATE v SET k = {greatest}", "ok SET 0 = - | ok SET 0 = -"
         past = "5 Type" if kind == "int64" else "7 ConstantRange"
         for number in [least - 1, greatest + 1] if kind != "uint64" else [least - 1]:
             yield f"{table}INSERT INTO v VALUES ({number})", past
+            yield f"{table}INSERT INTO v (k) VALUES ({number})", past
+            yield f"{table}INSERT INTO v SELECT {number}", past
             yield f"{table}UPDATE v SET k = {number}", past
 
 

@@ -211,10 +211,10 @@ def create_tables():
 
 
 class Selects:
-    """Random SELECTs over the tables."""
+    """Random SELECTs over tables. In an INSERT their fields are for columns of some kinds."""
 
-    def __init__(self, random):
-        self.random = random
+    def __init__(self, random, tables=None, kinds=None):
+        self.random, self.tables, self.kinds = random, tables or TABLES, kinds
 
     def chance(self, of_one):
         return self.random.random() < of_one
@@ -225,7 +225,7 @@ class Selects:
     def sets(self):
         """Names of record sets with their tables. One name may stand for two of them."""
         sets = []
-        for table in self.random.choices([*TABLES] if self.chance(0.97) else [*TABLES, "nosuch"], k=self.random.choice([0, 1, 1, 1, 2, 2, 3])):
+        for table in self.random.choices([*self.tables] if self.chance(0.97) else [*self.tables, "nosuch"], k=self.random.choice([0, 1, 1, 1, 2, 2, 3])):
             alias = self.random.choice([None, None, "z", "y", "t", "u"])
             if self.chance(0.97) and (alias or table) in [name for name, _, _ in sets]:
                 alias = f"r{len(sets)}"
@@ -236,9 +236,9 @@ class Selects:
         """The names that mean one column of the record sets, by their kinds."""
         found = {kind: [] for kind in KINDS}
         for name, table, _ in sets:
-            for column, kind in TABLES.get(table, {}).items():
+            for column, kind in self.tables.get(table, {}).items():
                 found[kind].append(f"{name}.{column}")
-                if sum(column in TABLES.get(other, {}) for _, other, _ in sets) == 1:
+                if sum(column in self.tables.get(other, {}) for _, other, _ in sets) == 1:
                     found[kind].append(column)
             found["int64"].append(f"id({name})")
         if len(sets) == 1:
@@ -273,12 +273,12 @@ class Selects:
     def fields(self, exprs, sets):
         """The fields of a SELECT, and the names that they may have."""
         if self.chance(0.15):
-            names = [f"{name}.{column}" for name, table, _ in sets for column in TABLES.get(table, {})]
+            names = [f"{name}.{column}" for name, table, _ in sets for column in self.tables.get(table, {})]
             return "*", names if len(sets) > 1 else [name.split(".")[1] for name in names]
         exprs.aggregates = self.chance(0.15)
         texts, known = [], []
-        for _ in range(self.random.randint(1, 3)):
-            text = exprs.text(self.random.choice([*KINDS, UNTYPED]), self.random.randint(0, 3))
+        for kind in self.field_kinds():
+            text = exprs.text(kind, self.random.randint(0, 3))
             if self.chance(0.3):
                 known.append(self.random.choice(["a", "b", "n", "m", "t"]))
                 text += f" AS {known[-1]}"
@@ -288,10 +288,18 @@ class Selects:
         exprs.aggregates = False
         return ", ".join(texts), known
 
+    def field_kinds(self):
+        """The kinds of the fields, some of which are untyped."""
+        if self.kinds is None:
+            return [self.random.choice([*KINDS, UNTYPED]) for _ in range(self.random.randint(1, 3))]
+        kinds = [UNTYPED if kind in INTEGERS and self.chance(0.5) else kind for kind in self.kinds]
+        return kinds if self.chance(0.95) else kinds[1:] or kinds + [UNTYPED]
+
     def key(self, exprs, known):
         if known and self.chance(0.6):
             name = self.random.choice(known)
-            return self.random.choice([name, name, f"{name} == NULL", f"({name})", f"{name} + 1", f"{name} == {name}"])
+            met = [f"{name} + {self.random.choice(INTEGERS)}(1)"] if self.kinds else []
+            return self.random.choice([name, name, f"{name} == NULL", f"({name})", f"{name} + 1", f"{name} == {name}", *met])
         return exprs.text(self.random.choice(KINDS), 2)
 
 
@@ -354,10 +362,18 @@ class Changes:
 
     def insert(self):
         table = self.table()
-        kinds = [*self.tables.get(table, {"a": "int64"}).values()]
+        columns = self.tables.get(table, {"a": "int64"})
+        names, named = [*columns], ""
+        if self.chance(0.5):
+            names = self.random.sample(names, self.random.randint(1, len(names)))
+            names += [self.random.choice("abcdefgh")] if self.chance(0.1) else []
+            named = f"({', '.join(names)}) "
+        kinds = [columns.get(name, "int64") for name in names]
+        if self.chance(0.4):
+            return f"INSERT INTO {table} {named}{Selects(self.random, self.tables, kinds).select()}"
         exprs = Expressions(self.random, self.mistakes, {}, REFUSED)
         rows = ", ".join(f"({', '.join(self.row(exprs, kinds))})" for _ in range(self.random.randint(1, 3)))
-        return f"INSERT INTO {table} {self.either([''], '(a) ')}{self.either(['VALUES ' + rows], 'SELECT 1')}"
+        return f"INSERT INTO {table} {named}VALUES {rows}"
 
     def row(self, exprs, kinds):
         values = [self.value(exprs, kind) for kind in kinds]

@@ -170,7 +170,8 @@ class DropIndex:
 class Insert:
     table: str
     names: list
-    rows: list | None  # None for a SELECT
+    rows: list
+    select: Select | None = None  # in place of rows
 
 
 @dataclass
@@ -311,8 +312,7 @@ class Reader:
         if self.sees("("):
             names = self.bracketed(lambda: self.list(self.name, lambda: self.sees("name")))
         if self.sees("SELECT"):
-            self.select()
-            return Insert(table, names, None)
+            return Insert(table, names, [], self.select())
         self.need("VALUES")
         return Insert(table, names, self.list(lambda: self.bracketed(self.exprs), lambda: self.sees("(")))
 

@@ -1,3 +1,5 @@
 pub mod Promises
 pub mod NewNames
-pub mod Assignments
+pub mod Behind
+mod FieldPlaces
+mod WholePlans

@@ -8,15 +8,13 @@ ghost use Rattle.ql_check.specs.NameSets.{HoldsNames};
 
 use crate::create::no_parts;
 use crate::from::add_slots;
-use crate::insert::for_kind;
-use crate::names::add_name;
 use crate::select::{resolve_if, row_scope};
 use crate::tables::known_table;
+use crate::targets::{for_kind, new_target};
 use ql_check_expr::{CheckFault, Group, check_expr};
 use ql_edge::{Boxed, Name, NoMemory, Numbers};
 use ql_rel::{Assigned, AssignedList, Plan, Schema, Target};
 use ql_syntax::{Assign, Assigns, ColumnDef, ColumnDefs, Expr, Scope, Slots, Typed, Typeds};
-use ql_value::{AMBIGUOUS, NO_COLUMN, Refusal};
 use std::alloc::Global;
 use std::collections::BTreeSet;
 
@@ -26,65 +24,6 @@ fn table_scope(alloc: Global, name: &[u8], columns: &ColumnDefs) -> Result<Scope
 {
     let slots = add_slots(alloc, Slots::new(alloc), name, columns)?;
     Ok(row_scope(alloc, slots))
-}
-
-/// The column with a name.
-fn target_named(name: &[u8], columns: &[ColumnDef]) -> Option<Target>
-    ensures { result ≡ spec.target_named name.now 0 columns.now }
-{
-    'columns: for (at, column) in columns.iter().enumerate() {
-        if column.name.as_slice() == name {
-            return Some(Target {
-                at: at as u64,
-                kind: column.kind,
-            });
-        }
-    }
-    None
-}
-
-/// A column that is there.
-fn target_there(alloc: Global, columns: &[ColumnDef], name: &[u8]) -> Result<Target, CheckFault>
-    ensures { Gives (spec.target_there name.now (spec.target_named name.now 0 columns.now)) result }
-{
-    match target_named(name, columns) {
-        Some(target) => Ok(target),
-        None => Err(CheckFault::Refused(Refusal::with_name(alloc, NO_COLUMN, name)?)),
-    }
-}
-
-/// A column that is named behind others, which its name is added to.
-fn named_once<'a>(
-    alloc: Global,
-    names: &mut BTreeSet<&'a [u8]>,
-    name: &'a [u8],
-) -> Result<(), CheckFault>
-    ensures once { (before : List (List ℕ)) → HoldsNames names.old before
-        → Gives (spec.named_once name.now before) result }
-    ensures names { (before : List (List ℕ)) → HoldsNames names.old before
-        → OnOk result (HoldsNames names.new (before ++ name.now ∷ [])) }
-{
-    if !add_name(names, name)? {
-        return Err(CheckFault::Refused(Refusal::with_name(alloc, AMBIGUOUS, name)?));
-    }
-    Ok(())
-}
-
-/// A column that values are for, named behind others.
-fn new_target<'a>(
-    alloc: Global,
-    names: &mut BTreeSet<&'a [u8]>,
-    columns: &[ColumnDef],
-    name: &'a [u8],
-) -> Result<Target, CheckFault>
-    ensures new { (before : List (List ℕ)) → HoldsNames names.old before
-        → Gives (spec.new_target columns.now before name.now) result }
-    ensures names { (before : List (List ℕ)) → HoldsNames names.old before
-        → OnOk result (HoldsNames names.new (before ++ name.now ∷ [])) }
-{
-    let target = target_there(alloc, columns, name)?;
-    named_once(alloc, names, name)?;
-    Ok(target)
 }
 
 /// A value that a row sees, for a column.
@@ -117,7 +56,7 @@ fn assigned<'a>(
     ensures names { (before : List (List ℕ)) → HoldsNames names.old before
         → OnOk result (HoldsNames names.new (before ++ assign.now.column ∷ [])) }
 {
-    let target = new_target(alloc, names, columns, assign.column.as_slice())?;
+    let target = new_target(alloc, names, columns, &assign.column)?;
     value_for(alloc, scope, target, &assign.value)
 }
 

@@ -1,17 +1,20 @@
 //! What a SELECT shows.
 
-ghost use Rattle.std.specs.Prelude.{◌≡◌, ◌++◌, None, IfOk};
+ghost use Rattle.std.specs.Prelude.{◌≡◌, ◌++◌, ◌&&◌, if◌then◌else◌, None, IfOk, slice_get};
 ghost use Rattle.ql_syntax.specs.declared.syntax.Field.{out-Field};
 ghost use Rattle.ql_rel.specs.Plans as spec;
+ghost use Rattle.ql_rel.specs.Targets.{kinds_of};
+ghost use Rattle.ql_value.specs.Kinds.{is_integer};
+ghost use Rattle.ql_syntax.specs.declared.typing.Typing.TheVariants.{OfKind};
 ghost use Rattle.ql_syntax.specs.Resolving.{plain_name};
 ghost use Rattle.ql_check_expr.specs.Gives.{Gives};
-ghost use Rattle.ql_check.specs.Outputs.{name_or_none};
+ghost use Rattle.ql_check.specs.Outputs.{name_or_none, slot_for};
 
 use ql_check_expr::{CheckFault, check_expr, has_aggregate, of_type, qualified_name};
 use ql_edge::{Boxed, Bytes, Name, NoMemory};
-use ql_rel::{ResultField, ResultFields};
-use ql_syntax::{Expr, Field, Fields, Scope, Slot, Slots, Typed};
-use ql_value::{COUNT, Refusal};
+use ql_rel::{ResultField, ResultFields, Target};
+use ql_syntax::{Checked, Expr, Field, Fields, Scope, Slot, Slots, Typed, Typing};
+use ql_value::{COUNT, Kind, Refusal};
 use std::alloc::Global;
 
 /// The name of the column that an expression is, with or without its table.
@@ -181,28 +184,76 @@ pub(crate) fn any_aggregate(fields: &[ResultField]) -> bool
     false
 }
 
+/// The name of a field as that of a place.
+fn place_name(alloc: Global, name: &Bytes) -> Result<Option<Bytes>, NoMemory>
+    ensures { IfOk result (λ column. column ≡ spec.place_name name.now) }
+{
+    if name.len() == 0 {
+        return Ok(None);
+    }
+    Ok(Some(Bytes::from_slice(alloc, name.as_slice())?))
+}
+
 /// A field as a place behind the row.
 fn field_slot(alloc: Global, field: &ResultField) -> Result<Slot, NoMemory>
     ensures { IfOk result (λ slot. slot ≡ spec.field_slot field.now) }
 {
-    let mut column = None;
-    if field.name.len() > 0 {
-        column = Some(Bytes::from_slice(alloc, field.name.as_slice())?);
-    }
     Ok(Slot {
         set: None,
-        column,
+        column: place_name(alloc, &field.name)?,
         typing: field.expr.typing,
     })
 }
 
-/// The fields as places behind the row.
-pub(crate) fn field_slots(alloc: Global, fields: &[ResultField]) -> Result<Slots, NoMemory>
-    ensures { IfOk result (λ slots. slots ≡ spec.field_slots fields.now) }
+/// The type of an expression that is for a column of a kind.
+fn met_typing(kind: Kind, expr: &Checked) -> Typing
+    ensures { result ≡ (if expr.now.untyped && is_integer kind then OfKind kind
+        else expr.now.typing) }
+{
+    if expr.untyped && kind.is_integer() {
+        Typing::OfKind(kind)
+    } else {
+        expr.typing
+    }
+}
+
+/// A field as a place, where it is for a column of a kind.
+fn met_slot(alloc: Global, kind: Kind, field: &ResultField) -> Result<Slot, NoMemory>
+    ensures { IfOk result (λ slot. slot ≡ spec.met_slot kind field.now) }
+{
+    Ok(Slot {
+        set: None,
+        column: place_name(alloc, &field.name)?,
+        typing: met_typing(kind, &field.expr),
+    })
+}
+
+/// A field as a place, where it is for the column at a number or for none.
+fn slot_at(
+    alloc: Global,
+    targets: &[Target],
+    at: usize,
+    field: &ResultField,
+) -> Result<Slot, NoMemory>
+    ensures { IfOk result (λ slot. slot ≡ slot_for (slice_get targets.now at) field.now) }
+{
+    match targets.get(at) {
+        Some(target) => met_slot(alloc, target.kind, field),
+        None => field_slot(alloc, field),
+    }
+}
+
+/// The fields as places behind the row: the first of them are for these columns.
+pub(crate) fn field_slots(
+    alloc: Global,
+    targets: &[Target],
+    fields: &[ResultField],
+) -> Result<Slots, NoMemory>
+    ensures { IfOk result (λ slots. slots ≡ spec.field_slots (kinds_of targets.now) fields.now) }
 {
     let mut slots = Slots::new(alloc);
-    'fields: for field in fields {
-        slots.push(field_slot(alloc, field)?)?;
+    'fields: for (at, field) in fields.iter().enumerate() {
+        slots.push(slot_at(alloc, targets, at, field)?)?;
     }
     Ok(slots)
 }

@@ -1,86 +1,28 @@
 //! The plan of INSERT.
 
-ghost use Rattle.std.specs.Prelude.{◌≡◌, [], false, length, map, Ok, IfOk};
-ghost use Rattle.std.specs.List.{list_all, list_any, range_with_len};
-ghost use Rattle.ql_value.specs.Kinds as kinds;
-ghost use Rattle.ql_syntax.specs.Typing as types;
+ghost use Rattle.std.specs.Prelude.{◌≡◌, [], false, map, IfOk};
+ghost use Rattle.std.specs.List.{list_all, list_any};
 ghost use Rattle.ql_syntax.specs.Answers.{all_of};
 ghost use Rattle.ql_rel.specs.CreatePlans as create;
 ghost use Rattle.ql_rel.specs.InsertPlans as spec;
 ghost use Rattle.ql_rel.specs.Plans.{row_scope};
 ghost use Rattle.ql_syntax.specs.Resolving.{check_expr};
 ghost use Rattle.ql_check_expr.specs.Gives.{Gives};
-ghost use Rattle.ql_check.specs.Inserts.{table_plan};
+ghost use Rattle.ql_check.specs.Inserts.{rows_plan, with_values, table_plan};
 
 use crate::create::{no_parts, takes_all};
-use crate::select::row_scope;
+use crate::plan::{Columns, bare_plan, columns_of};
+use crate::select::{row_scope, selected};
 use crate::tables::known_table;
-use ql_check_expr::{CheckFault, check_expr, meet_type, require_type};
-use ql_edge::{Name, Names, NoMemory, Numbers};
-use ql_rel::{Index, Indexes, Plan, Schema};
+use crate::targets::{Targets, counted_for, numbers_of, targets_of};
+use ql_check_expr::{CheckFault, check_expr};
+use ql_edge::{Name, Names};
+use ql_rel::{Index, Indexes, Output, Plan, Schema, Selected, Target};
 use ql_syntax::{
-    Checked, CheckedList, ColumnDef, ColumnDefs, ExprRows, Exprs, RowSource, Scope, Slots, Typed,
-    TypedRows, Typeds, Typing,
+    CheckedList, ColumnDef, ExprRows, Exprs, RowSource, Scope, Select, Slots, TypedRows, Typeds,
 };
-use ql_value::{COUNT, Kind, LATER, Refusal};
+use ql_value::{LATER, Refusal};
 use std::alloc::Global;
-
-/// The type, where its kind is this one.
-fn among_kind(kind: Kind, typing: Typing) -> Typing
-    ensures { result ≡ types.among (kinds.same_kind kind) typing }
-{
-    match typing {
-        Typing::OfKind(other) => {
-            if kind == other {
-                Typing::OfKind(other)
-            } else {
-                Typing::Ill
-            }
-        }
-        other => other,
-    }
-}
-
-/// A value for a column of a kind.
-pub(crate) fn for_kind(alloc: Global, kind: Kind, checked: Checked) -> Result<Typed, CheckFault>
-    ensures { Gives (spec.for_kind kind checked) result }
-{
-    let met = meet_type(alloc, Typing::OfKind(kind), checked)?;
-    require_type(alloc, among_kind(kind, met.typing))?;
-    Ok(met.tree)
-}
-
-/// Values for columns, of which there are as many.
-fn for_columns(
-    alloc: Global,
-    columns: &[ColumnDef],
-    parts: CheckedList,
-) -> Result<Typeds, CheckFault>
-    requires { length parts ≡ length columns.now }
-    ensures { Gives (spec.for_columns columns.now parts) result }
-{
-    let mut trees = Typeds::with_capacity(alloc, columns.len())?;
-    let mut at = 0;
-    'parts: for part in parts.into_vec() {
-        trees.push(for_kind(alloc, columns[at].kind, part)?)?;
-        at += 1;
-    }
-    Ok(trees)
-}
-
-/// As many values as columns.
-fn counted_for(
-    alloc: Global,
-    columns: &[ColumnDef],
-    parts: CheckedList,
-) -> Result<Typeds, CheckFault>
-    ensures { Gives (spec.counted_for columns.now parts) result }
-{
-    if parts.len() != columns.len() {
-        return Err(CheckFault::Refused(Refusal::new(alloc, COUNT)));
-    }
-    for_columns(alloc, columns, parts)
-}
 
 /// Expressions without aggregate.
 fn check_each(alloc: Global, scope: &Scope, exprs: &Exprs) -> Result<CheckedList, CheckFault>
@@ -97,54 +39,105 @@ fn check_each(alloc: Global, scope: &Scope, exprs: &Exprs) -> Result<CheckedList
 fn value_row(
     alloc: Global,
     scope: &Scope,
-    columns: &[ColumnDef],
+    targets: &[Target],
     exprs: &Exprs,
 ) -> Result<Typeds, CheckFault>
     requires { scope.now ≡ row_scope [] }
-    ensures { Gives (spec.value_row columns.now exprs.now) result }
+    ensures { Gives (spec.value_row targets.now exprs.now) result }
 {
     let parts = check_each(alloc, scope, exprs)?;
-    counted_for(alloc, columns, parts)
+    counted_for(alloc, targets, parts)
 }
 
 /// The rows of VALUES.
-fn value_rows(
-    alloc: Global,
-    columns: &[ColumnDef],
-    rows: &ExprRows,
-) -> Result<TypedRows, CheckFault>
-    ensures { Gives (all_of (map (spec.value_row columns.now) rows.now)) result }
+fn value_rows(alloc: Global, targets: &[Target], rows: &ExprRows) -> Result<TypedRows, CheckFault>
+    ensures { Gives (all_of (map (spec.value_row targets.now) rows.now)) result }
 {
     let scope = row_scope(alloc, Slots::new(alloc));
     let mut list = TypedRows::with_capacity(alloc, rows.len())?;
     'rows: for exprs in rows.as_slice() {
-        list.push(value_row(alloc, &scope, columns, exprs)?)?;
+        list.push(value_row(alloc, &scope, targets, exprs)?)?;
     }
     Ok(list)
 }
 
-/// The rows of an INSERT.
-fn source_rows(
-    alloc: Global,
-    columns: &[ColumnDef],
-    source: &RowSource,
-) -> Result<TypedRows, CheckFault>
-    ensures { Gives (spec.source_rows columns.now source.now) result }
+/// The plan of an INSERT of rows.
+fn rows_plan(alloc: Global, targets: &[Target], rows: &ExprRows) -> Result<Plan, CheckFault>
+    ensures { Gives (rows_plan targets.now rows.now) result }
 {
-    match source {
-        RowSource::Rows(rows) => value_rows(alloc, columns, rows),
-        RowSource::Query(_) => Err(CheckFault::Refused(Refusal::new(alloc, LATER))),
-    }
+    let rows = value_rows(alloc, targets, rows)?;
+    let targets = numbers_of(alloc, targets)?;
+    Ok(Plan {
+        rows,
+        targets,
+        ..no_parts(alloc)
+    })
 }
 
-/// Named columns are not built yet.
-fn without_named(alloc: Global, names: &Names) -> Result<(), CheckFault>
-    ensures { Gives (spec.without_named names.now) result }
+/// The values of an INSERT added to the other parts of its plan.
+fn add_values(
+    alloc: Global,
+    targets: &[Target],
+    parts: CheckedList,
+    rest: Plan,
+) -> Result<Plan, CheckFault>
+    ensures { Gives (with_values targets.now parts rest) result }
 {
-    if names.len() > 0 {
-        return Err(CheckFault::Refused(Refusal::new(alloc, LATER)));
+    let fields = counted_for(alloc, targets, parts)?;
+    let targets = numbers_of(alloc, targets)?;
+    Ok(Plan {
+        fields,
+        targets,
+        ..rest
+    })
+}
+
+/// The parts of a SELECT as the plan of an INSERT.
+fn inserted_plan(alloc: Global, targets: &[Target], x: Selected) -> Result<Plan, CheckFault>
+    ensures { Gives (spec.inserted_plan targets.now x) result }
+{
+    let Selected {
+        filter,
+        groups,
+        output,
+        limits,
+    } = x;
+    let Output {
+        fields,
+        grouped,
+        keys,
+    } = output;
+    let rest = bare_plan(alloc, filter, groups, grouped, keys, limits);
+    let Columns { parts, names } = columns_of(alloc, fields)?;
+    add_values(alloc, targets, parts, Plan { names, ..rest })
+}
+
+/// The plan of an INSERT of the rows of a SELECT.
+fn inserted_select(
+    alloc: Global,
+    schema: &Schema,
+    targets: &[Target],
+    select: &Select,
+) -> Result<Plan, CheckFault>
+    ensures { Gives (spec.inserted_select schema.now targets.now select.now) result }
+{
+    let parts = selected(alloc, schema, targets, select)?;
+    inserted_plan(alloc, targets, parts)
+}
+
+/// The plan of an INSERT into columns.
+fn source_plan(
+    alloc: Global,
+    schema: &Schema,
+    targets: &[Target],
+    source: &RowSource,
+) -> Result<Plan, CheckFault>
+    ensures { Gives (spec.source_plan schema.now targets.now source.now) result }
+{
+    match source {
+        RowSource::Rows(rows) => rows_plan(alloc, targets, rows),
+        RowSource::Query(select) => inserted_select(alloc, schema, targets, select.get()),
     }
-    Ok(())
 }
 
 /// Whether one of the indexes is unique.
@@ -178,29 +171,6 @@ fn without_checks(alloc: Global, schema: &Schema, columns: &[ColumnDef]) -> Resu
     Ok(())
 }
 
-/// The numbers below one, from 0 on.
-fn numbers_below(alloc: Global, end: usize) -> Result<Numbers, NoMemory>
-    ensures { IfOk result (λ numbers. numbers ≡ range_with_len 0 end) }
-{
-    let mut numbers = Numbers::with_capacity(alloc, end)?;
-    'numbers: for at in 0..end {
-        numbers.push(at as u64)?;
-    }
-    Ok(numbers)
-}
-
-/// Rows for all columns of a table, in their order.
-fn rows_plan(alloc: Global, columns: &[ColumnDef], rows: TypedRows) -> Result<Plan, CheckFault>
-    ensures { Gives (Ok (spec.rows_plan columns.now rows)) result }
-{
-    let targets = numbers_below(alloc, columns.len())?;
-    Ok(Plan {
-        rows,
-        targets,
-        ..no_parts(alloc)
-    })
-}
-
 /// The plan of an INSERT into a table with these columns.
 fn table_plan(
     alloc: Global,
@@ -211,10 +181,9 @@ fn table_plan(
 ) -> Result<Plan, CheckFault>
     ensures { Gives (table_plan schema.now columns.now names.now source.now) result }
 {
-    without_named(alloc, names)?;
+    let targets = targets_of(alloc, columns, names)?;
     without_checks(alloc, schema, columns)?;
-    let rows = source_rows(alloc, columns, source)?;
-    rows_plan(alloc, columns, rows)
+    source_plan(alloc, schema, targets.as_slice(), source)
 }
 
 /// The plan of INSERT.

@@ -1,17 +1,17 @@
-//! The plan of a SELECT.
+//! The parts of a SELECT in order.
 
-ghost use Rattle.std.specs.Prelude.{◌≡◌, Ok, IfOk};
+ghost use Rattle.std.specs.Prelude.{◌≡◌, IfOk};
 ghost use Rattle.ql_rel.specs.Plans as spec;
+ghost use Rattle.ql_rel.specs.Targets.{kinds_of};
 ghost use Rattle.ql_check_expr.specs.Gives.{Gives};
-ghost use Rattle.ql_check.specs.Outputs.{AreColumns};
 ghost use Rattle.ql_check_expr.specs.Groups.{test_of};
 
 use crate::fields::{any_aggregate, field_slots, fields_of};
 use crate::from::add_sets;
 use ql_check_expr::{CheckFault, Group, among, check_expr, require_type};
-use ql_edge::{Boxed, Names0, NoMemory, Numbers};
-use ql_rel::{Limits, Output, Plan, ResultField, ResultFields, Schema, Source};
-use ql_syntax::{Expr, Exprs, Join, OptTypeds, Scope, Select, Slots, Typed, TypedRows, Typeds};
+use ql_edge::{Boxed, NoMemory};
+use ql_rel::{Limits, Output, ResultFields, Schema, Selected, Source, Target};
+use ql_syntax::{Expr, Exprs, Join, Scope, Select, Slots, Typed, Typeds};
 use ql_value::{LATER, Refusal};
 use std::alloc::Global;
 
@@ -29,13 +29,14 @@ pub(crate) fn row_scope(alloc: Global, slots: Slots) -> Scope
 /// What ORDER BY sees.
 fn key_scope(
     alloc: Global,
+    targets: &[Target],
     hides: bool,
     scope: Scope,
     fields: &ResultFields,
 ) -> Result<Scope, NoMemory>
-    ensures { IfOk result (λ keys. keys ≡ spec.key_scope hides scope fields.now) }
+    ensures { IfOk result (λ keys. keys ≡ spec.key_scope (kinds_of targets.now) hides scope fields.now) }
 {
-    let fields = field_slots(alloc, fields.as_slice())?;
+    let fields = field_slots(alloc, targets, fields.as_slice())?;
     let Scope { row, .. } = scope;
     Ok(Scope { row, fields, hides })
 }
@@ -117,30 +118,33 @@ fn source_of(alloc: Global, schema: &Schema, select: &Select) -> Result<Source, 
 /// ORDER BY, behind the fields.
 fn keys_of(
     alloc: Global,
+    targets: &[Target],
     hides: bool,
     scope: Scope,
     fields: &ResultFields,
     keys: &Exprs,
 ) -> Result<Typeds, CheckFault>
-    ensures { Gives (spec.resolve_each (spec.key_scope hides scope fields.now) keys.now) result }
+    ensures { let sees = spec.key_scope (kinds_of targets.now) hides scope fields.now in
+        Gives (spec.resolve_each sees keys.now) result }
 {
-    let scope = key_scope(alloc, hides, scope, fields)?;
+    let scope = key_scope(alloc, targets, hides, scope, fields)?;
     resolve_each(alloc, &scope, keys)
 }
 
 /// The fields, then ORDER BY.
 fn output_of(
     alloc: Global,
+    targets: &[Target],
     scope: Scope,
     grouped: bool,
     select: &Select,
 ) -> Result<Output, CheckFault>
-    ensures { Gives (spec.output_of scope grouped select.now) result }
+    ensures { Gives (spec.output_of (kinds_of targets.now) scope grouped select.now) result }
 {
     let fields = fields_of(alloc, &scope, &select.fields)?;
     let grouped = grouped || any_aggregate(fields.as_slice());
     let hides = select.distinct || grouped;
-    let keys = keys_of(alloc, hides, scope, &fields, &select.keys)?;
+    let keys = keys_of(alloc, targets, hides, scope, &fields, &select.keys)?;
     Ok(Output {
         fields,
         grouped,
@@ -158,59 +162,6 @@ fn limits_of(alloc: Global, select: &Select) -> Result<Limits, CheckFault>
     Ok(Limits { limit, offset })
 }
 
-/// The expressions and the names of what a SELECT shows.
-#[derive(Drop)]
-struct Columns {
-    fields: Typeds,
-    names: Names0,
-}
-
-fn columns_of(alloc: Global, results: ResultFields) -> Result<Columns, NoMemory>
-    ensures { IfOk result (λ columns. AreColumns columns results) }
-{
-    let mut fields = Typeds::new(alloc);
-    let mut names = Names0::new(alloc);
-    'results: for field in results.into_vec() {
-        let ResultField { name, expr } = field;
-        fields.push(expr.tree)?;
-        names.push(name)?;
-    }
-    Ok(Columns { fields, names })
-}
-
-/// The parts of a plan together.
-fn plan_of(
-    alloc: Global,
-    filter: Option<Typed>,
-    groups: Typeds,
-    output: Output,
-    limits: Limits,
-) -> Result<Plan, CheckFault>
-    ensures { Gives (Ok (spec.plan_of filter groups output limits)) result }
-{
-    let Output {
-        fields,
-        grouped,
-        keys,
-    } = output;
-    let columns = columns_of(alloc, fields)?;
-    Ok(Plan {
-        fields: columns.fields,
-        names: columns.names,
-        filter,
-        join_on: None,
-        groups,
-        grouped,
-        keys,
-        limit: limits.limit,
-        offset: limits.offset,
-        rows: TypedRows::new(alloc),
-        targets: Numbers::new(alloc),
-        rules: OptTypeds::new(alloc),
-        defaults: OptTypeds::new(alloc),
-    })
-}
-
 /// Whether GROUP BY stands.
 fn has_groups(groups: &Typeds) -> bool
     ensures { result ≡ spec.is_some_list groups.now }
@@ -218,20 +169,26 @@ fn has_groups(groups: &Typeds) -> bool
     groups.len() > 0
 }
 
-/// The plan of a SELECT.
-pub(crate) fn select_plan(
+/// The parts of a SELECT in order. Its fields are for these columns, in an INSERT.
+pub(crate) fn selected(
     alloc: Global,
     schema: &Schema,
+    targets: &[Target],
     select: &Select,
-) -> Result<Plan, CheckFault>
-    ensures { Gives (spec.select_plan schema.now select.now) result }
+) -> Result<Selected, CheckFault>
+    ensures { Gives (spec.selected schema.now (kinds_of targets.now) select.now) result }
 {
     let Source {
         row,
         filter,
         groups,
     } = source_of(alloc, schema, select)?;
-    let output = output_of(alloc, row, has_groups(&groups), select)?;
+    let output = output_of(alloc, targets, row, has_groups(&groups), select)?;
     let limits = limits_of(alloc, select)?;
-    plan_of(alloc, filter, groups, output, limits)
+    Ok(Selected {
+        filter,
+        groups,
+        output,
+        limits,
+    })
 }

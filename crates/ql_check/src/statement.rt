@@ -8,7 +8,7 @@ ghost use Rattle.ql_check_expr.specs.Gives.{Gives};
 use crate::change::{delete_plan, update_plan};
 use crate::create::create_plan;
 use crate::insert::insert_plan;
-use crate::select::select_plan;
+use crate::plan::select_plan;
 use crate::tables::{add_column_plan, drop_column_plan, drop_plan, whole_plan};
 use ql_check_expr::CheckFault;
 use ql_rel::{Plan, Schema};

@@ -1,9 +1,10 @@
 -- The effect of a statement leaves a database lawful.
 use Rattle.std.proofs.Common.{◌≡◌, ℕ, Bool, true, false, List, [], Ok, Err, refl, ap, subst}
 use Rattle.ql_syntax.specs.declared.statement.ColumnDef.{ColumnDef}
-use Rattle.ql_syntax.specs.declared.statement.RowSource.{RowSource}
+use Rattle.ql_syntax.specs.declared.statement.RowSource.TheVariants as source
 use Rattle.ql_syntax.specs.declared.statement.Statement.{Statement}
 use Rattle.ql_syntax.specs.declared.statement.Statement.TheVariants as s
+use Rattle.ql_syntax.specs.declared.syntax.Expr.{Expr}
 use Rattle.ql_rel.specs.declared.db.Db.{Db}
 use Rattle.ql_rel.specs.declared.fault.RelFault.TheVariants as fault
 use Rattle.ql_rel.specs.declared.plan.Plan.{Plan}
@@ -48,10 +49,10 @@ create_keeps laws name columns p db after text l r e c =
     let done = made_if (is_past_table t (schema_of db)) (table_created t db) after (silent_is (table_added t db) text after c) in
     subst IsLawful done.1 (create_lawful laws t db l (has_plan t (schema_of db) p e) (reads_itself (schema_of db) name columns p e r) done.0)
 
-insert_keeps : (laws : FormLaws) (name : List ℕ) (names : List (List ℕ)) (rows_of : RowSource) (p : Plan) (db after : Db) (text : List ℕ) → IsLawful db → insert_plan (schema_of db) name names rows_of ≡ Ok p
+insert_keeps : (laws : FormLaws) (name : List ℕ) (exprs : List (List Expr)) (p : Plan) (db after : Db) (text : List ℕ) → IsLawful db → insert_plan (schema_of db) name [] (source.Rows exprs) ≡ Ok p
     → then_with (inserts name p.rows db) silent ≡ Ok (text, after) → IsLawful after
-insert_keeps laws name names rows_of p db after text l e c =
-    let says = insert_says (schema_of db) name names rows_of p e in
+insert_keeps laws name exprs p db after text l e c =
+    let says = insert_says (schema_of db) name exprs p e in
     let place = place_named name (schema_of db).tables in
     let done = then_ok (rows_values p.rows) (λ values. rows_added place values db) after (silent_is (inserts name p.rows db) text after c) in
     rows_lawful laws place done.0 db after l says.takes (rows_fit (columns_at place (schema_of db)) p.rows done.0 says.typed done.1) done.2
@@ -64,7 +65,7 @@ carried_lawful : (laws : FormLaws) (with_names : Bool) (statement : Statement) (
     → carried with_names statement p db ≡ Ok (text, after) → IsLawful after
 carried_lawful laws with_names (s.Query select) p db after text l r e c = query_keeps (select_text with_names db select p) db after text l c
 carried_lawful laws with_names (s.CreateTable false name columns) p db after text l r e c = create_keeps laws name columns p db after text l r e c
-carried_lawful laws with_names (s.Insert name names rows_of) p db after text l r e c = insert_keeps laws name names rows_of p db after text l e c
+carried_lawful laws with_names (s.Insert name [] (source.Rows exprs)) p db after text l r e c = insert_keeps laws name exprs p db after text l e c
 carried_lawful laws with_names _ p db after text l r e c = absurd (cc)
 
 pub effect_lawful : (laws : FormLaws) (with_names : Bool) (statement : Statement) (db after : Db) (text : List ℕ) → IsLawful db → IsReadBack statement → statement_effect with_names statement db ≡ Ok (text, after) → IsLawful after

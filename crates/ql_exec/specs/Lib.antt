@@ -4,3 +4,4 @@ pub mod Scans
 pub mod Selects
 pub mod Depths
 pub mod EffectLaws
+pub mod WholeRows

@@ -21,7 +21,9 @@ mod NarrowForms
 mod TextLemmas
 mod EventLemmas
 mod StatementExamples
+pub mod TargetFits
 pub mod InsertFits
+pub mod InsertSelects
 pub mod ChangeFits
 pub mod MadeLemmas
 pub mod CreateLemmas

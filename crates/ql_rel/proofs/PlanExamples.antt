@@ -25,14 +25,15 @@ use Rattle.ql_syntax.specs.declared.scope.Slot.{Slot}
 use Rattle.ql_rel.specs.declared.select.ResultField.{ResultField}
 use Rattle.ql_rel.specs.declared.select.Source.{Source}
 use Rattle.ql_rel.specs.declared.select.Limits.{Limits}
+use Rattle.ql_rel.specs.declared.select.Selected.{Selected}
 use Rattle.ql_rel.specs.declared.plan.Plan.{Plan}
 use Rattle.ql_rel.specs.declared.schema.Schema.{Schema}
 use Rattle.ql_syntax.specs.Aggregates.{has_aggregate, aggregate_step, aggregate_link}
 use Rattle.ql_syntax.specs.Answers.{Answer, refused, refused_at, then_with}
-use Rattle.ql_syntax.specs.Checked.{of_type, require_type}
+use Rattle.ql_syntax.specs.Checked.{of_type, literal_of, require_type}
 use Rattle.ql_syntax.specs.Scopes.{column_place}
 use Rattle.ql_syntax.specs.Resolving.{Judged, ref_of, plain_name}
-use Rattle.ql_rel.specs.Plans.{add_table, add_source, add_set, add_sets, set_slots, without_join, field_name, star, any_field_aggregate, key_scope, row_scope, table_named, resolve_among, resolve_if, resolve_each, is_some_list, output_of, limits_of, plan_of, select_plan}
+use Rattle.ql_rel.specs.Plans.{add_table, add_source, add_set, add_sets, set_slots, without_join, field_name, star, any_field_aggregate, key_scope, row_scope, table_named, resolve_among, resolve_if, resolve_each, is_some_list, output_of, limits_of, whole_plan_of, select_plan}
 use Rattle.ql_syntax.specs.GroupTyping.{aggregate_type, type_by, type_in_group}
 use Rattle.ql_syntax.proofs.TypedBy.{by_roll, by_constant, by_place, by_rows, by_aggregate}
 use Rattle.ql_rel.proofs.Equations.{judge_of_column, judge_of_number, judge_of_truth, judge_of_null}
@@ -77,20 +78,33 @@ abbrev field : List ℕ → ResultField
 field name = record { name = name; expr = of_type (OfKind k.Text) (t.Place 1) }
 
 -- ORDER BY: two fields of one name are ambiguous, a field stands before a column, and with DISTINCT or grouping no column is seen
-two_fields : column_place (key_scope false (row_scope t_slots) (field (codes "a") ∷ field (codes "a") ∷ [])) None (codes "a") ≡ refused_at 3 (codes "a")
+two_fields : column_place (key_scope [] false (row_scope t_slots) (field (codes "a") ∷ field (codes "a") ∷ [])) None (codes "a") ≡ refused_at 3 (codes "a")
 two_fields = refl
 
-field_first : column_place (key_scope false (row_scope t_slots) (field (codes "a") ∷ [])) None (codes "a") ≡ Ok (record { at = 2; typing = OfKind k.Text })
+field_first : column_place (key_scope [] false (row_scope t_slots) (field (codes "a") ∷ [])) None (codes "a") ≡ Ok (record { at = 2; typing = OfKind k.Text })
 field_first = refl
 
-row_next : column_place (key_scope false (row_scope t_slots) (field (codes "b") ∷ [])) None (codes "a") ≡ Ok (record { at = 1; typing = OfKind k.Int8 })
+row_next : column_place (key_scope [] false (row_scope t_slots) (field (codes "b") ∷ [])) None (codes "a") ≡ Ok (record { at = 1; typing = OfKind k.Int8 })
 row_next = refl
 
-row_hidden : column_place (key_scope true (row_scope t_slots) (field (codes "b") ∷ [])) None (codes "a") ≡ refused_at 2 (codes "a")
+row_hidden : column_place (key_scope [] true (row_scope t_slots) (field (codes "b") ∷ [])) None (codes "a") ≡ refused_at 2 (codes "a")
 row_hidden = refl
 
+-- in the SELECT of an INSERT, ORDER BY sees an untyped field as one of its column's kind, and every other field as it is
+abbrev untyped : ResultField
+untyped = record { name = codes "a"; expr = literal_of (record { minus = false; size = 300 }) }
+
+field_meets : column_place (key_scope (k.Int8 ∷ []) false (row_scope t_slots) (untyped ∷ [])) None (codes "a") ≡ Ok (record { at = 2; typing = OfKind k.Int8 })
+field_meets = refl
+
+field_alone : column_place (key_scope [] false (row_scope t_slots) (untyped ∷ [])) None (codes "a") ≡ Ok (record { at = 2; typing = OfKind k.Int64 })
+field_alone = refl
+
+field_is : column_place (key_scope (k.Int8 ∷ []) false (row_scope t_slots) (field (codes "a") ∷ [])) None (codes "a") ≡ Ok (record { at = 2; typing = OfKind k.Text })
+field_is = refl
+
 -- `ORDER BY t.a` means a field that is named `t.a`, and not one that is named `a`
-as_written : column_place (key_scope true (row_scope t_slots) (field (codes "a") ∷ field (codes "t.a") ∷ [])) (Some (codes "t")) (codes "a") ≡ Ok (record { at = 3; typing = OfKind k.Text })
+as_written : column_place (key_scope [] true (row_scope t_slots) (field (codes "a") ∷ field (codes "t.a") ∷ [])) (Some (codes "t")) (codes "a") ≡ Ok (record { at = 3; typing = OfKind k.Text })
 as_written = refl
 
 -- the name of a field: that behind AS, else that of the column which it is, else none; a column in brackets is none
@@ -194,8 +208,11 @@ module _ (q : Select) where
   abbrev source_from : List Slot → Answer (Option Typed) → Answer Source
   source_from slots filter = then_with filter (λ x. then_with (resolve_each (row_scope slots) (out-Select q).groups) (λ groups. Ok (record { row = row_scope slots; filter = x; groups = groups })))
 
+  abbrev parts_from : Answer Source → Answer Selected
+  parts_from from = then_with from (λ m. then_with (output_of [] m.row (is_some_list m.groups) q) (λ output. then_with (limits_of q) (λ limits. Ok (record { filter = m.filter; groups = m.groups; output = output; limits = limits }))))
+
   abbrev plan_from : Answer Source → Answer Plan
-  plan_from from = then_with from (λ m. then_with (output_of m.row (is_some_list m.groups) q) (λ output. then_with (limits_of q) (λ limits. Ok (plan_of m.filter m.groups output limits))))
+  plan_from from = then_with (parts_from from) (λ x. Ok (whole_plan_of x))
 
   where_first : (out-Select q).sets ≡ [] → (out-Select q).join ≡ None → (out-Select q).filter ≡ Some (e.Column None (codes "a")) → select_plan tables q ≡ refused_at 2 (codes "a")
   where_first no_sets no_join h =

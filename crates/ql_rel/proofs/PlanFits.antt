@@ -13,17 +13,16 @@ use Rattle.ql_syntax.specs.Answers.{then_with}
 use Rattle.ql_syntax.specs.Checked.{require_type}
 use Rattle.ql_syntax.specs.Resolving.{check_expr, plain_name}
 use Rattle.ql_rel.specs.Plans.{field_name, resolve_among, resolve_if, resolve, resolve_each, result_field, written_fields}
-use Rattle.ql_syntax.specs.GroupTyping.{type_in_group}
 use Rattle.ql_rel.specs.PlanTypes.{AreTyped}
-use Rattle.ql_rel.proofs.Fits.{then_ok, same_ok, ruled_ok}
+use Rattle.ql_rel.proofs.Fits.{Fits, then_ok, same_ok, ruled_ok}
 use Rattle.ql_rel.proofs.Places.{Stands}
 use Rattle.ql_syntax.proofs.NoAggregates.{row_type}
 use Rattle.ql_rel.proofs.Judged.{is_so}
 
--- each field has its type in the group
-abbrev pub FieldsFit : List Typing → List ResultField → Type 0
-FieldsFit row [] = Unit {0}
-FieldsFit row (x ∷ fields) = (IsTyped x.expr.typing × (type_in_group row x.expr.tree ≡ x.expr.typing)) × FieldsFit row fields
+-- what is said of each field is so
+abbrev pub FieldsFit : Bool → List Typing → List ResultField → Type 0
+FieldsFit may row [] = Unit {0}
+FieldsFit may row (x ∷ fields) = Fits may row x.expr × FieldsFit may row fields
 
 module _ (row : List Typing) (scope : Scope) (stands : Stands row scope) where
   -- an expression without aggregate has its type
@@ -56,15 +55,14 @@ module _ (row : List Typing) (scope : Scope) (stands : Stands row scope) where
       let one : IsTyped (type_of row s.0) = subst (λ x. IsTyped (type_of row x)) (same_ok o.0.tree s.0 o.2) (subst IsTyped (sym c.1) c.0) in
       subst (AreTyped (type_of row)) (same_ok (s.0 ∷ m.0) trees m.2) (one, resolved_types es m.0 m.1)
 
-  field_fits : (alias : Option (List ℕ)) (e : Expr) (x : ResultField) → result_field scope alias e ≡ Ok x → IsTyped x.expr.typing × (type_in_group row x.expr.tree ≡ x.expr.typing)
+  field_fits : (alias : Option (List ℕ)) (e : Expr) (x : ResultField) → result_field scope alias e ≡ Ok x → Fits true row x.expr
   field_fits alias e x a =
       let s = then_ok (check_expr scope true e) (λ c. Ok (record { name = field_name alias (plain_name e); expr = c })) x a in
-      let f = is_so row scope stands e true s.0 s.1 in
-      subst (λ y. IsTyped y.expr.typing × (type_in_group row y.expr.tree ≡ y.expr.typing)) (same_ok (record { name = field_name alias (plain_name e); expr = s.0 }) x s.2) (f.typed, f.is)
+      subst (λ y. Fits true row y.expr) (same_ok (record { name = field_name alias (plain_name e); expr = s.0 }) x s.2) (is_so row scope stands e true s.0 s.1)
 
-  pub fields_fit : (fields : List Field) (list : List ResultField) → written_fields scope fields ≡ Ok list → FieldsFit row list
-  fields_fit [] list a = subst (FieldsFit row) (same_ok [] list a) tt
+  pub fields_fit : (fields : List Field) (list : List ResultField) → written_fields scope fields ≡ Ok list → FieldsFit true row list
+  fields_fit [] list a = subst (FieldsFit true row) (same_ok [] list a) tt
   fields_fit (f ∷ fields) list a =
       let s = then_ok (result_field scope (out-Field f).alias (out-Field f).expr) (λ x. then_with (written_fields scope fields) (λ xs. Ok (x ∷ xs))) list a in
       let m = then_ok (written_fields scope fields) (λ xs. Ok (s.0 ∷ xs)) list s.2 in
-      subst (FieldsFit row) (same_ok (s.0 ∷ m.0) list m.2) (field_fits (out-Field f).alias (out-Field f).expr s.0 s.1, fields_fit fields m.0 m.1)
+      subst (FieldsFit true row) (same_ok (s.0 ∷ m.0) list m.2) (field_fits (out-Field f).alias (out-Field f).expr s.0 s.1, fields_fit fields m.0 m.1)

@@ -15,15 +15,14 @@ use Rattle.ql_syntax.specs.declared.checked.Checked.{Checked}
 use Rattle.ql_rel.specs.declared.db.Db.{Db}
 use Rattle.ql_rel.specs.declared.db.Row.{Row}
 use Rattle.ql_rel.specs.declared.schema.Schema.{Schema}
-use Rattle.ql_syntax.specs.Answers.{refused, refused_at}
+use Rattle.ql_syntax.specs.Answers.{refused, refused_at, then_with}
 use Rattle.ql_rel.specs.Changes.{row_of}
 use Rattle.ql_syntax.specs.Checked.{of_type, literal_of}
 use Rattle.ql_rel.specs.Courses.{course, committed}
 use Rattle.ql_rel.specs.Databases.{empty_db}
 use Rattle.ql_rel.specs.Events.{Event, shows, refused_in, places_of, told_by}
-use Rattle.ql_rel.specs.InsertPlans.{for_kind, counted_for}
 use Rattle.ql_rel.specs.SelectRows.{set_rows, heading, lines_of}
-use Rattle.ql_rel.specs.ChangePlans.{new_target}
+use Rattle.ql_rel.specs.Targets.{new_target, all_targets, targets_of, for_kind, counted_for}
 use Rattle.ql_rel.specs.CreatePlans.{no_parts}
 use Rattle.ql_rel.specs.StatementEffects.{statement_effect, rows_added}
 use Rattle.ql_rel.specs.StatementPlans.{statement_plan}
@@ -126,6 +125,19 @@ set_nowhere = refl
 set_second : new_target t_columns (codes "a" ∷ []) (codes "b") ≡ Ok (record { at = 1; kind = k.Text })
 set_second = refl
 
+-- the columns of an INSERT: all where none is named, else those that are, in their order; a column that is nowhere, one that is named twice, and what comes first
+all_columns : targets_of t_columns [] ≡ Ok (record { at = 0; kind = k.Int8 } ∷ record { at = 1; kind = k.Text } ∷ [])
+all_columns = refl
+
+named_turned : targets_of t_columns (codes "b" ∷ codes "a" ∷ []) ≡ Ok (record { at = 1; kind = k.Text } ∷ record { at = 0; kind = k.Int8 } ∷ [])
+named_turned = refl
+
+named_nowhere : targets_of t_columns (codes "b" ∷ codes "c" ∷ []) ≡ refused_at 2 (codes "c")
+named_nowhere = refl
+
+named_twice : targets_of t_columns (codes "a" ∷ codes "a" ∷ codes "c" ∷ []) ≡ refused_at 3 (codes "a")
+named_twice = refl
+
 -- values for columns: `127` and `128` for an int8, a string and NULL for one, `1` for a string; another number of values
 abbrev number : ℕ → Checked
 number n = literal_of (record { minus = false; size = n })
@@ -151,11 +163,14 @@ number_for_text = refl
 null_for_number : for_kind k.Int8 nothing ≡ Ok (t.Constant v.Null)
 null_for_number = refl
 
-too_few : counted_for t_columns (number 1 ∷ []) ≡ refused 6
+too_few : counted_for (all_targets 0 t_columns) (number 1 ∷ []) ≡ refused 6
 too_few = refl
 
-first_refusal : counted_for t_columns (number 128 ∷ number 1 ∷ []) ≡ refused 7
+first_refusal : counted_for (all_targets 0 t_columns) (number 128 ∷ number 1 ∷ []) ≡ refused 7
 first_refusal = refl
+
+values_turned : then_with (targets_of t_columns (codes "b" ∷ codes "a" ∷ [])) (λ targets. counted_for targets (words ∷ number 127 ∷ [])) ≡ Ok (words.tree ∷ t.Constant (v.Int k.Int8 (pos 127)) ∷ [])
+values_turned = refl
 
 -- rows go in with the next ids, and are shown by rising id
 two_rows : rows_added 0 (one ∷ two ∷ []) (with_rows_of 7 []) ≡ Ok (with_rows_of 9 (row_of 7 one ∷ row_of 8 two ∷ []))

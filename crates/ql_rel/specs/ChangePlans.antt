@@ -1,46 +1,25 @@
 -- The plans of UPDATE and DELETE, which see their table as the one record set; or their first refusals. Rules and defaults are no parts of them yet.
-use Rattle.std.specs.Prelude.{ℕ, suc, false, if◌then◌else◌, List, [], ◌∷◌, ◌++◌, map, Option, Some, None, Ok}
-use Rattle.std.specs.Str.{bytes_eq}
-use Rattle.ql_value.specs.declared.refusal.TheConstants.{NO_COLUMN, AMBIGUOUS}
+use Rattle.std.specs.Prelude.{ℕ, false, List, [], ◌∷◌, ◌++◌, map, Option, Ok}
 use Rattle.ql_value.specs.Kinds.{is_truth}
 use Rattle.ql_syntax.specs.declared.statement.Assign.{Assign}
 use Rattle.ql_syntax.specs.declared.statement.ColumnDef.{ColumnDef}
 use Rattle.ql_syntax.specs.declared.syntax.Expr.{Expr}
 use Rattle.ql_syntax.specs.declared.scope.Scope.{Scope}
 use Rattle.ql_syntax.specs.declared.typed.Typed.{Typed}
-use Rattle.ql_syntax.specs.Answers.{Answer, refused_at, then_with}
+use Rattle.ql_syntax.specs.Answers.{Answer, then_with}
 use Rattle.ql_syntax.specs.Resolving.{check_expr}
 use Rattle.ql_rel.specs.declared.change.Assigned.{Assigned}
 use Rattle.ql_rel.specs.declared.change.Target.{Target}
 use Rattle.ql_rel.specs.declared.plan.Plan.{Plan}
 use Rattle.ql_rel.specs.declared.schema.Schema.{Schema}
 use Rattle.ql_rel.specs.CreatePlans.{no_parts}
-use Rattle.ql_rel.specs.InsertPlans.{for_kind}
-use Rattle.ql_rel.specs.Names.{has_name}
 use Rattle.ql_rel.specs.NewNames.{known_table}
 use Rattle.ql_rel.specs.Plans.{row_scope, set_slots, resolve_if}
+use Rattle.ql_rel.specs.Targets.{for_kind, new_target}
 
 -- what UPDATE and DELETE see: the id and the columns of their table
 abbrev pub table_scope : List ℕ → List ColumnDef → Scope
 table_scope name columns = row_scope (set_slots name columns)
-
--- the column with a name; the first one has this number
-abbrev pub target_named : List ℕ → ℕ → List ColumnDef → Option Target
-target_named name at [] = None
-target_named name at (c ∷ columns) = if bytes_eq c.name name then Some (record { at = at; kind = c.kind }) else target_named name (suc at) columns
-
--- a column that is there, and else 2
-abbrev pub target_there : List ℕ → Option Target → Answer Target
-target_there name None = refused_at NO_COLUMN name
-target_there name (Some target) = Ok target
-
--- a column that is named behind others: 3 where it is one of them
-abbrev pub named_once : List ℕ → List (List ℕ) → Answer (Unit {0})
-named_once name before = if has_name name before then refused_at AMBIGUOUS name else Ok tt
-
--- a column that values are for, named behind others: 2, then 3
-abbrev pub new_target : List ColumnDef → List (List ℕ) → List ℕ → Answer Target
-new_target columns before name = then_with (target_there name (target_named name 0 columns)) (λ target. then_with (named_once name before) (λ _. Ok target))
 
 -- a value that a row sees, without aggregate, for a column: 7 before 5
 abbrev pub value_for : Scope → Target → Expr → Answer Assigned

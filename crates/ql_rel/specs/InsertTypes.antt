@@ -1,4 +1,4 @@
--- What the plan of an INSERT promises of the types of its values.
+-- What the plan of an INSERT for all columns promises of the types of its values.
 use Rattle.std.specs.Prelude.{List, [], ◌∷◌}
 use Rattle.std.specs.List.{AllByRecursion}
 use Rattle.ql_value.specs.Kinds.{same_kind}

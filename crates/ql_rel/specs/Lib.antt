@@ -17,6 +17,7 @@ pub mod ChangeLaws
 pub mod FormLaws
 pub mod NewNames
 pub mod CreatePlans
+pub mod Targets
 pub mod InsertPlans
 pub mod InsertTypes
 pub mod TablePlans

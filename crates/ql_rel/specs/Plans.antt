@@ -1,5 +1,5 @@
 -- The plan of a statement over the tables of a schema, or its first refusal.
-use Rattle.std.specs.Prelude.{ℕ, suc, Bool, true, false, ◌||◌, if◌then◌else◌, nat_lt, List, [], ◌∷◌, ◌++◌, length, map, codes, Option, Some, None, Ok}
+use Rattle.std.specs.Prelude.{ℕ, suc, Bool, true, false, ◌&&◌, ◌||◌, if◌then◌else◌, nat_lt, List, [], ◌∷◌, ◌++◌, map, codes, Option, Some, None, Ok}
 use Rattle.std.specs.Str.{bytes_eq}
 use Rattle.ql_value.specs.declared.refusal.TheConstants.{NO_TABLE}
 use Rattle.ql_value.specs.declared.refusal.TheConstants.{AMBIGUOUS, COUNT, LATER}
@@ -26,6 +26,7 @@ use Rattle.ql_rel.specs.declared.select.ResultField.{ResultField}
 use Rattle.ql_rel.specs.declared.select.Source.{Source}
 use Rattle.ql_rel.specs.declared.select.Output.{Output}
 use Rattle.ql_rel.specs.declared.select.Limits.{Limits}
+use Rattle.ql_rel.specs.declared.select.Selected.{Selected}
 use Rattle.ql_rel.specs.declared.plan.Plan.{Plan}
 use Rattle.ql_rel.specs.declared.schema.Schema.{Schema}
 use Rattle.ql_rel.specs.declared.schema.TableSchema.{TableSchema}
@@ -173,12 +174,19 @@ place_name (b ∷ name) = Some (b ∷ name)
 abbrev pub field_slot : ResultField → Slot
 field_slot x = record { set = None; column = place_name x.name; typing = x.expr.typing }
 
-abbrev pub field_slots : List ResultField → List Slot
-field_slots fields = map field_slot fields
+-- the same for a column of a kind, which an untyped field takes
+abbrev pub met_slot : Kind → ResultField → Slot
+met_slot kind x = record { set = None; column = place_name x.name; typing = if x.expr.untyped && is_integer kind then OfKind kind else x.expr.typing }
+
+-- the fields as places: the first of them are for columns of these kinds, the others for none
+abbrev pub field_slots : List Kind → List ResultField → List Slot
+field_slots [] fields = map field_slot fields
+field_slots (kind ∷ kinds) [] = []
+field_slots (kind ∷ kinds) (x ∷ fields) = met_slot kind x ∷ field_slots kinds fields
 
 -- what ORDER BY sees: the fields, and the row where neither DISTINCT nor grouping hides it
-abbrev pub key_scope : Bool → Scope → List ResultField → Scope
-key_scope hides scope fields = record { row = scope.row; fields = field_slots fields; hides = hides }
+abbrev pub key_scope : List Kind → Bool → Scope → List ResultField → Scope
+key_scope kinds hides scope fields = record { row = scope.row; fields = field_slots kinds fields; hides = hides }
 
 -- the list has a member
 abbrev pub is_some_list : {A : Type 0} → List A → Bool
@@ -198,15 +206,15 @@ source_of schema select =
     then_with (without_join (out-Select select).join) (λ _. row_conditions (row_scope slots) select))
 
 -- ORDER BY behind the fields; there is grouping where GROUP BY stands or a field has an aggregate
-abbrev pub keyed_output : Scope → Bool → Select → List ResultField → Answer Output
-keyed_output row grouped_by select fields =
+abbrev pub keyed_output : List Kind → Scope → Bool → Select → List ResultField → Answer Output
+keyed_output kinds row grouped_by select fields =
     let grouped = grouped_by || any_field_aggregate fields in
-    then_with (resolve_each (key_scope ((out-Select select).distinct || grouped) row fields) (out-Select select).keys) (λ keys.
+    then_with (resolve_each (key_scope kinds ((out-Select select).distinct || grouped) row fields) (out-Select select).keys) (λ keys.
     Ok (record { fields = fields; grouped = grouped; keys = keys }))
 
 -- the fields, then ORDER BY
-abbrev pub output_of : Scope → Bool → Select → Answer Output
-output_of row grouped_by select = then_with (result_fields row (out-Select select).fields) (keyed_output row grouped_by select)
+abbrev pub output_of : List Kind → Scope → Bool → Select → Answer Output
+output_of kinds row grouped_by select = then_with (result_fields row (out-Select select).fields) (keyed_output kinds row grouped_by select)
 
 -- LIMIT, then OFFSET
 abbrev pub limits_of : Select → Answer Limits
@@ -233,12 +241,17 @@ plan_of filter groups output limits = record {
   defaults = [];
 }
 
--- the fields, ORDER BY, LIMIT and OFFSET behind what stands before the fields
-abbrev pub plan_behind : Select → Source → Answer Plan
-plan_behind select source =
-    then_with (output_of source.row (is_some_list source.groups) select) (λ output.
-    then_with (limits_of select) (λ limits. Ok (plan_of source.filter source.groups output limits)))
+-- the parts of a SELECT in order: FROM, join, WHERE, GROUP BY, fields, ORDER BY, LIMIT, OFFSET; its fields are for columns of these kinds, in an INSERT, or for none
+abbrev pub selected : Schema → List Kind → Select → Answer Selected
+selected schema kinds select =
+    then_with (source_of schema select) (λ source.
+    then_with (output_of kinds source.row (is_some_list source.groups) select) (λ output.
+    then_with (limits_of select) (λ limits. Ok (record { filter = source.filter; groups = source.groups; output = output; limits = limits }))))
 
--- the plan of a SELECT: FROM, join, WHERE, GROUP BY, fields, ORDER BY, LIMIT, OFFSET
+-- the parts of a SELECT as a plan
+abbrev pub whole_plan_of : Selected → Plan
+whole_plan_of x = plan_of x.filter x.groups x.output x.limits
+
+-- the plan of a SELECT by itself
 abbrev pub select_plan : Schema → Select → Answer Plan
-select_plan schema select = then_with (source_of schema select) (plan_behind select)
+select_plan schema select = then_with (selected schema [] select) (λ x. Ok (whole_plan_of x))

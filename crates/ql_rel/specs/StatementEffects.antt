@@ -2,6 +2,7 @@
 use Rattle.std.specs.Prelude.{ℕ, Bool, false, List, [], ◌∷◌, map, Option, Some, None, Ok}
 use Rattle.ql_value.specs.declared.refusal.TheConstants.{LATER}
 use Rattle.ql_value.specs.declared.value.Value.{Value}
+use Rattle.ql_syntax.specs.declared.statement.RowSource.TheVariants as source
 use Rattle.ql_syntax.specs.declared.statement.Statement.{Statement}
 use Rattle.ql_syntax.specs.declared.statement.Statement.TheVariants as s
 use Rattle.ql_syntax.specs.declared.typed.Typed.{Typed}
@@ -58,7 +59,7 @@ silent db = Ok ([], db)
 abbrev pub carried : Bool → Statement → Plan → Db → Answer (List ℕ × Db)
 carried with_names (s.Query select) p db = then_with (select_text with_names db select p) (λ text. Ok (text, db))
 carried with_names (s.CreateTable false name columns) p db = then_with (table_added (record { name = name; columns = columns }) db) silent
-carried with_names (s.Insert name names rows_of) p db = then_with (inserts name p.rows db) silent
+carried with_names (s.Insert name [] (source.Rows rows)) p db = then_with (inserts name p.rows db) silent
 carried with_names _ p db = refused LATER
 
 -- what a statement does: its plan, and then what is done by it; the truth says whether a SELECT's text begins with the names of its fields

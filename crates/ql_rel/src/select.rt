@@ -39,3 +39,14 @@ pub struct Limits {
     pub limit: Option<Typed>,
     pub offset: Option<Typed>,
 }
+
+/// The parts of a SELECT in order.
+#[derive(Drop)]
+pub struct Selected {
+    /// The condition of WHERE.
+    pub filter: Option<Typed>,
+    /// The expressions of GROUP BY.
+    pub groups: Typeds,
+    pub output: Output,
+    pub limits: Limits,
+}

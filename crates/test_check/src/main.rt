@@ -8,7 +8,8 @@
 //! has none, and `@` and a place where it is the value at that place of the row. Where rows are grouped, ` GROUP` and
 //! the columns of GROUP BY follow, and where there is an ORDER BY, ` ORDER` and its expressions, all without names. The
 //! plan of an UPDATE is `ok SET` and its columns by their numbers with their new values, as in `ok SET 1 = -@2, 0 = -`, and
-//! that of an INSERT is `ok INTO`, the columns and ` ROWS` with the number of rows. Every other plan is `ok`.
+//! that of an INSERT is `ok INTO`, the columns, and ` ROWS` with the number of rows or ` SELECT` with what the plan of the SELECT
+//! has behind its `ok`. Every other plan is `ok`.
 #![tactic(auto)]
 
 mod answer;

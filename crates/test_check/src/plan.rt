@@ -43,13 +43,18 @@ fn add_parts(parts: &Typeds, out: &mut Bytes) -> Result<(), NoMemory> {
     Ok(())
 }
 
-/// Adds the columns of an INSERT by their numbers, and how many rows it has.
-fn add_rows(plan: &Plan, out: &mut Bytes) -> Result<(), NoMemory> {
+/// Adds the columns of an INSERT by their numbers.
+fn add_targets(plan: &Plan, out: &mut Bytes) -> Result<(), NoMemory> {
     out.extend(b" INTO")?;
     for (i, target) in plan.targets.as_slice().iter().enumerate() {
         add_gap(i, out)?;
         print_number(*target, out)?;
     }
+    Ok(())
+}
+
+/// Adds how many rows an INSERT has.
+fn add_rows(plan: &Plan, out: &mut Bytes) -> Result<(), NoMemory> {
     out.extend(b" ROWS ")?;
     print_number(plan.rows.len() as u64, out)
 }
@@ -67,15 +72,8 @@ fn add_sets(plan: &Plan, out: &mut Bytes) -> Result<(), NoMemory> {
     Ok(())
 }
 
-/// Adds a plan.
-pub fn add_plan(plan: &Plan, out: &mut Bytes) -> Result<(), NoMemory> {
-    out.extend(b"ok")?;
-    if plan.rows.len() > 0 {
-        return add_rows(plan, out);
-    }
-    if plan.targets.len() > 0 {
-        return add_sets(plan, out);
-    }
+/// Adds the fields of a SELECT, by what it groups, and by what it orders.
+fn add_select(plan: &Plan, out: &mut Bytes) -> Result<(), NoMemory> {
     add_fields(plan, out)?;
     if plan.grouped {
         out.extend(b" GROUP")?;
@@ -86,4 +84,22 @@ pub fn add_plan(plan: &Plan, out: &mut Bytes) -> Result<(), NoMemory> {
         add_parts(&plan.keys, out)?;
     }
     Ok(())
+}
+
+/// Adds a plan.
+pub fn add_plan(plan: &Plan, out: &mut Bytes) -> Result<(), NoMemory> {
+    out.extend(b"ok")?;
+    if plan.rows.len() > 0 {
+        add_targets(plan, out)?;
+        return add_rows(plan, out);
+    }
+    if plan.targets.len() == 0 {
+        return add_select(plan, out);
+    }
+    if plan.names.len() == 0 {
+        return add_sets(plan, out);
+    }
+    add_targets(plan, out)?;
+    out.extend(b" SELECT")?;
+    add_select(plan, out)
 }

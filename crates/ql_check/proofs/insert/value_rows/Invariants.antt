@@ -6,4 +6,4 @@ use Rattle.ql_check.proofs.insert.value_rows.Given as goal
 
 -- the rows so far, and those that are left
 abbrev pub invariant-rows : goal.invariant-rows
-invariant-rows l = behind l.list (all_of (map (value_row l.columns) (drop l.exprs-index l.rows))) ≡ all_of (map (value_row l.columns) l.rows)
+invariant-rows l = behind l.list (all_of (map (value_row l.targets) (drop l.exprs-index l.rows))) ≡ all_of (map (value_row l.targets) l.rows)

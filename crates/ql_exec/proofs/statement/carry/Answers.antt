@@ -1,6 +1,6 @@
 -- Each part is given what it asks for, and does what the statement does.
-use Rattle.std.proofs.Common.{length}
-use Rattle.ql_exec.proofs.Carried.{query_planned, loud, quiet_does, create_level, create_planned, create_read, insert_level, insert_planned, query_does, create_does, insert_does, others_do}
+use Rattle.std.proofs.Common.{length, sym, ◌∙◌}
+use Rattle.ql_exec.proofs.Carried.{query_planned, loud, quiet_does, create_level, create_planned, create_read, insert_level, insert_planned, query_does, create_does, others_do}
 use Rattle.ql_exec.proofs.statement.carry.Goals as goal
 
 pub add_select-requires-clause-plan : goal.add_select-requires-clause-plan
@@ -37,15 +37,13 @@ insert_rows-requires-clause-level g c =
 
 pub insert_rows-requires-clause-table : goal.insert_rows-requires-clause-table
 insert_rows-requires-clause-table g c =
-    (insert_planned (g.R.Rel.schema c.args.rel.now) c.args.statement.now c.in-Insert.table _ _ c.args.plan.now c.in-Insert.is c.requires.plan).there
+    (insert_planned (g.R.Rel.schema c.args.rel.now) c.args.statement.now c.in-Insert.table c.in-Insert.columns c.in-Insert.source c.get-in-Insert.result.now c.args.plan.now
+    c.in-Insert.is c.get-in-Insert.ensures (sym c.are_whole.ensures ∙ c.if-not-are_whole.false) c.requires.plan).there
 
 pub insert_rows-requires-clause-typed : goal.insert_rows-requires-clause-typed
 insert_rows-requires-clause-typed g c =
-    (insert_planned (g.R.Rel.schema c.args.rel.now) c.args.statement.now c.in-Insert.table _ _ c.args.plan.now c.in-Insert.is c.requires.plan).typed
-
-pub returns-in-Insert-clause-done : goal.returns-in-Insert-clause-done
-returns-in-Insert-clause-done g c =
-    insert_does c.args.with_names c.args.statement.now c.in-Insert.table _ _ c.args.plan.now _ _ _ _ c.in-Insert.is c.insert_rows.ensures.done
+    (insert_planned (g.R.Rel.schema c.args.rel.now) c.args.statement.now c.in-Insert.table c.in-Insert.columns c.in-Insert.source c.get-in-Insert.result.now c.args.plan.now
+    c.in-Insert.is c.get-in-Insert.ensures (sym c.are_whole.ensures ∙ c.if-not-are_whole.false) c.requires.plan).typed
 
 pub returns-in_default-clause-done : goal.returns-in_default-clause-done
 returns-in_default-clause-done g c =

@@ -1,6 +1,6 @@
 use Rattle.std.proofs.Common.{◌≡◌, drop}
-use Rattle.ql_rel.specs.ChangePlans as spec
-use Rattle.ql_check.proofs.change.target_named.Given as goal
+use Rattle.ql_rel.specs.Targets as spec
+use Rattle.ql_check.proofs.targets.target_named.Given as goal
 
 -- none of the columns before has the name
 abbrev pub invariant-columns : goal.invariant-columns

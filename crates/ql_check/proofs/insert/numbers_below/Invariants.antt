@@ -1,7 +1,0 @@
-use Rattle.std.proofs.Common.{◌≡◌}
-use Rattle.std.specs.List.{range_with_len}
-use Rattle.ql_check.proofs.insert.numbers_below.Given as goal
-
--- the numbers so far
-abbrev pub invariant-numbers : goal.invariant-numbers
-invariant-numbers l = l.numbers ≡ range_with_len 0 l.at
