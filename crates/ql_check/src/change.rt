@@ -8,7 +8,7 @@ ghost use Rattle.ql_check.specs.NameSets.{HoldsNames};
 
 use crate::create::no_parts;
 use crate::from::add_slots;
-use crate::insert::for_kind;
+use crate::insert::{for_kind, without_checks};
 use crate::names::add_name;
 use crate::select::{resolve_if, row_scope};
 use crate::tables::known_table;
@@ -201,6 +201,7 @@ pub(crate) fn update_plan(
     ensures { Gives (spec.update_plan schema.now name.now sets.now filter.now) result }
 {
     let table = known_table(alloc, name.as_slice(), schema)?;
+    without_checks(alloc, schema, table.columns.as_slice())?;
     let scope = table_scope(alloc, name.as_slice(), &table.columns)?;
     changes_of(alloc, &scope, table.columns.as_slice(), sets, filter)
 }

@@ -18,7 +18,8 @@ use Rattle.ql_rel.specs.Limits.{is_past_table}
 use Rattle.ql_rel.specs.NewNames.{place_named}
 use Rattle.ql_rel.specs.Refusals.{refused_if}
 use Rattle.ql_rel.specs.SelectRows.{select_text}
-use Rattle.ql_rel.specs.StatementEffects.{unless, table_added, rows_added, rows_values, inserts, silent, carried, statement_effect}
+use Rattle.ql_rel.specs.Refused.{unless}
+use Rattle.ql_rel.specs.StatementEffects.{table_added, rows_added, rows_values, inserts, silent, carried, statement_effect}
 use Rattle.ql_rel.specs.StatementPlans.{statement_plan}
 use Rattle.ql_syntax.specs.ReadsBack.{IsReadBack}
 use Rattle.ql_rel.proofs.CreateLemmas.{has_plan}
