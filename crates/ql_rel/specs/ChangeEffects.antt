@@ -1,5 +1,5 @@
 -- What UPDATE and DELETE do to the rows of a table, each row by itself.
-use Rattle.std.specs.Prelude.{ℕ, Bool, true, false, if◌then◌else◌, List, [], ◌∷◌, map, flat_map, Option, Some, None, Ok}
+use Rattle.std.specs.Prelude.{ℕ, Bool, true, false, if◌then◌else◌, List, [], ◌∷◌, map, flat_map, slice_set, Option, Some, None, Ok}
 use Rattle.ql_value.specs.declared.value.Value.{Value}
 use Rattle.ql_value.specs.declared.value.Value.TheVariants as v
 use Rattle.ql_syntax.specs.declared.typed.Typed.{Typed}
@@ -9,7 +9,7 @@ use Rattle.ql_rel.specs.declared.db.Db.{Db}
 use Rattle.ql_rel.specs.declared.db.Row.{Row}
 use Rattle.ql_rel.specs.declared.plan.Plan.{Plan}
 use Rattle.ql_rel.specs.declared.schema.Schema.{Schema}
-use Rattle.ql_rel.specs.Changes.{changed_at, rows_changed, row_of}
+use Rattle.ql_rel.specs.Changes.{rows_changed, row_of}
 use Rattle.ql_rel.specs.Databases.{schema_of, rows_at}
 use Rattle.ql_rel.specs.NewNames.{place_named}
 use Rattle.ql_rel.specs.Refusals.{change_refusal}
@@ -29,7 +29,7 @@ is_meant (Some filter) row = then_with (answer_of (value_at row filter)) (λ x. 
 
 -- values with new ones at some places, from left to right
 abbrev pub with_new : List ℕ → List Value → List Value → List Value
-with_new (at ∷ targets) (x ∷ new) values = with_new targets new (changed_at at (λ _. x) values)
+with_new (at ∷ targets) (x ∷ new) values = with_new targets new (slice_set values at x)
 with_new _ _ values = values
 
 -- what becomes of a row that DELETE means, and of one that UPDATE means: its new values are those of the old row, and then it is refused where it is too long or has a key that is, 33 and 34
