@@ -8,6 +8,7 @@ ghost use Rattle.ql_check.specs.NameSets.{HoldsNames};
 
 use crate::create::no_parts;
 use crate::from::add_slots;
+use crate::insert::without_checks;
 use crate::select::{resolve_if, row_scope};
 use crate::tables::known_table;
 use crate::targets::{for_kind, new_target};
@@ -140,6 +141,7 @@ pub(crate) fn update_plan(
     ensures { Gives (spec.update_plan schema.now name.now sets.now filter.now) result }
 {
     let table = known_table(alloc, name.as_slice(), schema)?;
+    without_checks(alloc, schema, table.columns.as_slice())?;
     let scope = table_scope(alloc, name.as_slice(), &table.columns)?;
     changes_of(alloc, &scope, table.columns.as_slice(), sets, filter)
 }

@@ -162,7 +162,11 @@ fn takes_rows(schema: &Schema, columns: &[ColumnDef]) -> bool
 }
 
 /// Conditions on rows are not built yet.
-fn without_checks(alloc: Global, schema: &Schema, columns: &[ColumnDef]) -> Result<(), CheckFault>
+pub(crate) fn without_checks(
+    alloc: Global,
+    schema: &Schema,
+    columns: &[ColumnDef],
+) -> Result<(), CheckFault>
     ensures { Gives (spec.without_checks schema.now columns.now) result }
 {
     if !takes_rows(schema, columns) {

@@ -1,6 +1,7 @@
 -- What a statement does, by the change that it made or by the text that it added.
 use Rattle.std.proofs.Common.{◌≡◌, ℕ, Bool, true, false, ◌<◌, List, [], ◌∷◌, Option, Some, None, IfSome, Result, Ok, Err, refl, sym, ap, subst, ◌∙◌, append-nil}
 use Rattle.std.specs.Prelude.{IsOk}
+use Rattle.ql_syntax.specs.declared.statement.Assign.{Assign}
 use Rattle.ql_syntax.specs.declared.statement.ColumnDef.{ColumnDef}
 use Rattle.ql_syntax.specs.declared.statement.RowSource.{RowSource}
 use Rattle.ql_syntax.specs.declared.statement.RowSource.TheVariants as source
@@ -111,15 +112,40 @@ quiet_does T with_names statement quiet name columns p f (Some d) now before new
     subst (λ (z : ExecFault). Does {T = T} (carried with_names statement p d) (Err z) before new now) (sym i) refuses
 
 -- every other statement with a plan is not built yet
-later : (with_names : Bool) (statement : Statement) (p : Plan) (d : Db) → ((q : Select) → statement ≡ s.Query q → ⊥) → ((quiet : Bool) (name : List ℕ) (columns : List ColumnDef) → statement ≡ s.CreateTable quiet name columns → ⊥)
-    → ((name : List ℕ) (names : List (List ℕ)) (rows_of : RowSource) → statement ≡ s.Insert name names rows_of → ⊥) → carried with_names statement p d ≡ refused 10
-later with_names (s.Query q) p d no_query no_create no_insert = absurd (no_query q refl)
-later with_names (s.CreateTable quiet name columns) p d no_query no_create no_insert = absurd (no_create quiet name columns refl)
-later with_names (s.Insert name names rows_of) p d no_query no_create no_insert = absurd (no_insert name names rows_of refl)
-later with_names _ p d no_query no_create no_insert = refl
+abbrev IsOther : Statement → Type 0
+IsOther (s.Query q) = ⊥
+IsOther (s.CreateTable quiet name columns) = ⊥
+IsOther (s.DropTable quiet name) = ⊥
+IsOther (s.Insert name names rows_of) = ⊥
+IsOther (s.Update name sets filter) = ⊥
+IsOther (s.Delete name filter) = ⊥
+IsOther (s.Truncate name) = ⊥
+IsOther _ = Unit {0}
 
-pub others_do : (T : Type 0) (with_names : Bool) (statement : Statement) (p : Plan) (f : ExecFault) (o now : Option Db) (before new : List ℕ) → f ≡ fault.Refused (record { number = 10; name = [] }) → ((q : Select) → statement ≡ s.Query q → ⊥) → ((quiet : Bool) (name : List ℕ) (columns : List ColumnDef) → statement ≡ s.CreateTable quiet name columns → ⊥)
-    → ((name : List ℕ) (names : List (List ℕ)) (rows_of : RowSource) → statement ≡ s.Insert name names rows_of → ⊥) → IfSome o (λ d. Does {T = T} (carried with_names statement p d) (Err f) before new now)
-others_do T with_names statement p f None now before new i no_query no_create no_insert = tt
-others_do T with_names statement p f (Some d) now before new i no_query no_create no_insert =
-    subst (λ (z : ExecFault). Does {T = T} (carried with_names statement p d) (Err z) before new now) (sym i) (later with_names statement p d no_query no_create no_insert)
+later : (with_names : Bool) (statement : Statement) (p : Plan) (d : Db) → IsOther statement → carried with_names statement p d ≡ refused 10
+later with_names (s.Query q) p d h = absurd h
+later with_names (s.CreateTable quiet name columns) p d h = absurd h
+later with_names (s.DropTable quiet name) p d h = absurd h
+later with_names (s.Insert name names rows_of) p d h = absurd h
+later with_names (s.Update name sets filter) p d h = absurd h
+later with_names (s.Delete name filter) p d h = absurd h
+later with_names (s.Truncate name) p d h = absurd h
+later with_names _ p d h = refl
+
+pub is_other : (statement : Statement) → ((q : Select) → statement ≡ s.Query q → ⊥) → ((quiet : Bool) (name : List ℕ) (columns : List ColumnDef) → statement ≡ s.CreateTable quiet name columns → ⊥)
+    → ((quiet : Bool) (name : List ℕ) → statement ≡ s.DropTable quiet name → ⊥) → ((name : List ℕ) (names : List (List ℕ)) (rows_of : RowSource) → statement ≡ s.Insert name names rows_of → ⊥)
+    → ((name : List ℕ) (sets : List Assign) (filter : Option Expr) → statement ≡ s.Update name sets filter → ⊥) → ((name : List ℕ) (filter : Option Expr) → statement ≡ s.Delete name filter → ⊥) → ((name : List ℕ) → statement ≡ s.Truncate name → ⊥) → IsOther statement
+is_other (s.Query q) no_query no_create no_drop no_insert no_update no_delete no_truncate = absurd (no_query q refl)
+is_other (s.CreateTable quiet name columns) no_query no_create no_drop no_insert no_update no_delete no_truncate = absurd (no_create quiet name columns refl)
+is_other (s.DropTable quiet name) no_query no_create no_drop no_insert no_update no_delete no_truncate = absurd (no_drop quiet name refl)
+is_other (s.Insert name names rows_of) no_query no_create no_drop no_insert no_update no_delete no_truncate = absurd (no_insert name names rows_of refl)
+is_other (s.Update name sets filter) no_query no_create no_drop no_insert no_update no_delete no_truncate = absurd (no_update name sets filter refl)
+is_other (s.Delete name filter) no_query no_create no_drop no_insert no_update no_delete no_truncate = absurd (no_delete name filter refl)
+is_other (s.Truncate name) no_query no_create no_drop no_insert no_update no_delete no_truncate = absurd (no_truncate name refl)
+is_other _ no_query no_create no_drop no_insert no_update no_delete no_truncate = tt
+
+pub others_do : (T : Type 0) (with_names : Bool) (statement : Statement) (p : Plan) (f : ExecFault) (o now : Option Db) (before new : List ℕ) → f ≡ fault.Refused (record { number = 10; name = [] }) → IsOther statement
+    → IfSome o (λ d. Does {T = T} (carried with_names statement p d) (Err f) before new now)
+others_do T with_names statement p f None now before new i h = tt
+others_do T with_names statement p f (Some d) now before new i h =
+    subst (λ (z : ExecFault). Does {T = T} (carried with_names statement p d) (Err z) before new now) (sym i) (later with_names statement p d h)

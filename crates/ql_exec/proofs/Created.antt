@@ -13,7 +13,8 @@ use Rattle.ql_rel.specs.Creates.{create_table}
 use Rattle.ql_rel.specs.Databases.{schema_of}
 use Rattle.ql_rel.specs.Limits.{is_past_table}
 use Rattle.ql_rel.specs.Refusals.{table_refusal, IsRefusedBy}
-use Rattle.ql_rel.specs.StatementEffects.{unless, table_added}
+use Rattle.ql_rel.specs.Refused.{unless}
+use Rattle.ql_rel.specs.StatementEffects.{table_added}
 use Rattle.ql_rel.specs.WellFormed.{IsMade, IsReadAsItself, IsWellFormed}
 use Rattle.ql_syntax.specs.ReadsBack.{IsReadBack}
 use Rattle.ql_rel.proofs.CreateLemmas.{HasPlan, has_plan, created_made}

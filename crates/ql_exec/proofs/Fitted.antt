@@ -23,7 +23,7 @@ use Rattle.ql_rel.specs.WellFormed.{Fits}
 use Rattle.ql_rel.proofs.Fits.{then_ok, same_ok}
 use Rattle.ql_exec.specs.Answers.{AreTypedAt}
 
-typed_among : (test : Kind → Bool) (t : Typing) → IsTyped (among test t) → IsTyped t
+pub typed_among : (test : Kind → Bool) (t : Typing) → IsTyped (among test t) → IsTyped t
 typed_among test OnlyNull h = tt
 typed_among test (OfKind kind) h = tt
 typed_among test Ill h = h
@@ -43,12 +43,12 @@ kind_if : (kind own : Kind) (b : Bool) (x : Value) → same_kind kind own ≡ b 
 kind_if kind own true x e t h = subst (λ k. HasKind k x) (sym (one_kind kind own e)) h
 kind_if kind own false x e t h = absurd t
 
-kind_of_type : (kind : Kind) (t : Typing) (x : Value) → IsTyped (among (same_kind kind) t) → HasType t x → HasKind kind x
+pub kind_of_type : (kind : Kind) (t : Typing) (x : Value) → IsTyped (among (same_kind kind) t) → HasType t x → HasKind kind x
 kind_of_type kind OnlyNull x t h = subst (HasKind kind) (sym h) tt
 kind_of_type kind (OfKind own) x t h = kind_if kind own (same_kind kind own) x refl t h
 kind_of_type kind Ill x t h = absurd t
 
-comes_to : (t : Typing) (a : Outcome) (x : Value) → Comes t a → answer_of a ≡ Ok x → HasType t x
+pub comes_to : (t : Typing) (a : Outcome) (x : Value) → Comes t a → answer_of a ≡ Ok x → HasType t x
 comes_to t (gives y) x c e = subst (HasType t) (same_ok y x e) c
 comes_to t (refuses reason.divide) x c e = absurd (cc)
 comes_to t (refuses reason.range) x c e = absurd (cc)

@@ -1,5 +1,6 @@
 -- The effect of a statement leaves a database lawful.
-use Rattle.std.proofs.Common.{◌≡◌, ℕ, Bool, true, false, List, [], Ok, Err, refl, ap, subst}
+use Rattle.std.proofs.Common.{◌≡◌, ℕ, Bool, true, false, List, [], Option, Ok, Err, refl, ap, subst}
+use Rattle.ql_syntax.specs.declared.statement.Assign.{Assign}
 use Rattle.ql_syntax.specs.declared.statement.ColumnDef.{ColumnDef}
 use Rattle.ql_syntax.specs.declared.statement.RowSource.TheVariants as source
 use Rattle.ql_syntax.specs.declared.statement.Statement.{Statement}
@@ -10,6 +11,8 @@ use Rattle.ql_rel.specs.declared.fault.RelFault.TheVariants as fault
 use Rattle.ql_rel.specs.declared.plan.Plan.{Plan}
 use Rattle.ql_rel.specs.declared.schema.TableSchema.{TableSchema}
 use Rattle.ql_syntax.specs.Answers.{Answer, then_with}
+use Rattle.ql_rel.specs.ChangeEffects.{changes}
+use Rattle.ql_rel.specs.ChangePlans.{update_plan}
 use Rattle.ql_rel.specs.Changes.{table_created}
 use Rattle.ql_rel.specs.Databases.{schema_of, columns_at}
 use Rattle.ql_rel.specs.InsertPlans.{insert_plan}
@@ -19,16 +22,20 @@ use Rattle.ql_rel.specs.Limits.{is_past_table}
 use Rattle.ql_rel.specs.NewNames.{place_named}
 use Rattle.ql_rel.specs.Refusals.{refused_if}
 use Rattle.ql_rel.specs.SelectRows.{select_text}
-use Rattle.ql_rel.specs.StatementEffects.{unless, table_added, rows_added, rows_values, inserts, silent, carried, statement_effect}
+use Rattle.ql_rel.specs.Refused.{unless}
+use Rattle.ql_rel.specs.StatementEffects.{table_added, rows_added, rows_values, inserts, drops, empties, silent, carried, statement_effect}
 use Rattle.ql_rel.specs.StatementPlans.{statement_plan}
+use Rattle.ql_rel.specs.TablePlans.{is_idle, drop_plan}
 use Rattle.ql_syntax.specs.ReadsBack.{IsReadBack}
 use Rattle.ql_rel.proofs.CreateLemmas.{has_plan}
 use Rattle.ql_rel.proofs.Fits.{then_ok, same_ok}
 use Rattle.ql_exec.proofs.Fitted.{rows_fit}
 use Rattle.ql_exec.proofs.LawfulRows.{rows_lawful}
+use Rattle.ql_exec.proofs.LawfulChanges.{dropped_lawful, truncated_lawful, removed_lawful, updated_lawful}
 use Rattle.ql_exec.proofs.LawfulTables.{create_lawful}
 use Rattle.ql_exec.proofs.Planned.{insert_says}
 use Rattle.ql_exec.proofs.ReadBack.{reads_itself}
+use Rattle.ql_exec.proofs.Tabled.{drop_there, update_says}
 
 made_if : (b : Bool) (x y : Db) → unless (refused_if b fault.TableLimit) x ≡ Ok y → (b ≡ false) × (x ≡ y)
 made_if true x y e = absurd (cc)
@@ -57,6 +64,19 @@ insert_keeps laws name exprs p db after text l e c =
     let done = then_ok (rows_values p.rows) (λ values. rows_added place values db) after (silent_is (inserts name p.rows db) text after c) in
     rows_lawful laws place done.0 db after l says.takes (rows_fit (columns_at place (schema_of db)) p.rows done.0 says.typed done.1) done.2
 
+drop_keeps : (laws : FormLaws) (quiet : Bool) (name : List ℕ) (p : Plan) (db after : Db) (text : List ℕ) → IsLawful db → drop_plan (schema_of db) quiet name ≡ Ok p → silent (drops quiet name db) ≡ Ok (text, after) → IsLawful after
+drop_keeps laws quiet name p db after text l e c =
+    let by : (b : Bool) → is_idle (schema_of db) (s.DropTable quiet name) ≡ b → IsLawful (drops quiet name db) = elim [
+      | true ↦ λ i. rw i l
+      | false ↦ λ i. rw i (dropped_lawful laws (place_named name (schema_of db).tables) db l (drop_there (schema_of db) quiet name p e i))
+    ] in
+    subst IsLawful (second [] text (drops quiet name db) after c) (by (is_idle (schema_of db) (s.DropTable quiet name)) refl)
+
+update_keeps : (name : List ℕ) (sets : List Assign) (filter : Option Expr) (p : Plan) (db after : Db) (text : List ℕ) → IsLawful db → update_plan (schema_of db) name sets filter ≡ Ok p → then_with (changes false name p db) silent ≡ Ok (text, after) → IsLawful after
+update_keeps name sets filter p db after text l e c =
+    let says = update_says (schema_of db) name sets filter p e in
+    updated_lawful (place_named name (schema_of db).tables) p db after l says.1 says.0.typed (silent_is (changes false name p db) text after c)
+
 query_keeps : (text : Answer (List ℕ)) (db after : Db) (shown : List ℕ) → IsLawful db → then_with {B = List ℕ × Db} text (λ t. Ok (t, db)) ≡ Ok (shown, after) → IsLawful after
 query_keeps (Ok t) db after shown l e = subst IsLawful (second t shown db after e) l
 query_keeps (Err r) db after shown l e = absurd (cc)
@@ -65,7 +85,13 @@ carried_lawful : (laws : FormLaws) (with_names : Bool) (statement : Statement) (
     → carried with_names statement p db ≡ Ok (text, after) → IsLawful after
 carried_lawful laws with_names (s.Query select) p db after text l r e c = query_keeps (select_text with_names db select p) db after text l c
 carried_lawful laws with_names (s.CreateTable false name columns) p db after text l r e c = create_keeps laws name columns p db after text l r e c
+carried_lawful laws with_names (s.DropTable quiet name) p db after text l r e c = drop_keeps laws quiet name p db after text l e c
 carried_lawful laws with_names (s.Insert name [] (source.Rows exprs)) p db after text l r e c = insert_keeps laws name exprs p db after text l e c
+carried_lawful laws with_names (s.Update name sets filter) p db after text l r e c = update_keeps name sets filter p db after text l e c
+carried_lawful laws with_names (s.Delete name filter) p db after text l r e c =
+    removed_lawful (place_named name (schema_of db).tables) p db after l (silent_is (changes true name p db) text after c)
+carried_lawful laws with_names (s.Truncate name) p db after text l r e c =
+    subst IsLawful (second [] text (empties name db) after c) (truncated_lawful (place_named name (schema_of db).tables) db l)
 carried_lawful laws with_names _ p db after text l r e c = absurd (cc)
 
 pub effect_lawful : (laws : FormLaws) (with_names : Bool) (statement : Statement) (db after : Db) (text : List ℕ) → IsLawful db → IsReadBack statement → statement_effect with_names statement db ≡ Ok (text, after) → IsLawful after

@@ -20,7 +20,8 @@ use Rattle.ql_rel.specs.InsertPlans.{takes_rows}
 use Rattle.ql_rel.specs.Lawful.{is_broken, AllMayStand, IsTrueOf, MeetsColumns, IsLawful}
 use Rattle.ql_rel.specs.Limits.{row_too_long, first_long_key}
 use Rattle.ql_rel.specs.Refusals.{refused_if, or_next, key_refusal, are_ids_spent, insert_refusal}
-use Rattle.ql_rel.specs.StatementEffects.{unless, row_added, rows_added}
+use Rattle.ql_rel.specs.Refused.{unless}
+use Rattle.ql_rel.specs.StatementEffects.{row_added, rows_added}
 use Rattle.ql_rel.specs.FormLaws.{FormLaws}
 use Rattle.ql_rel.specs.WellFormed.{Fits}
 use Rattle.ql_rel.proofs.Fits.{then_ok, same_ok}
@@ -31,7 +32,7 @@ never_null : (b : Bool) (x : Bool) → not b ≡ true → b ≡ true → x ≡ f
 never_null true x h e = absurd (cc)
 never_null false x h e = absurd (cc)
 
-all_stand : (columns : List ColumnDef) (values : List Value) → list_all takes_all columns ≡ true → AllMayStand columns values
+pub all_stand : (columns : List ColumnDef) (values : List Value) → list_all takes_all columns ≡ true → AllMayStand columns values
 all_stand [] values h = tt
 all_stand (c ∷ columns) [] h = tt
 all_stand (c ∷ columns) (x ∷ values) h =
@@ -43,7 +44,7 @@ no_rule : (scope : Scope) (values : List Value) (o : Option Expr) → is_none o 
 no_rule scope values None e = tt
 no_rule scope values (Some rule) e = absurd (cc)
 
-no_rules : (scope : Scope) (values : List Value) (columns : List ColumnDef) → list_all takes_all columns ≡ true → AllByRecursion (λ (c : ColumnDef). IsTrueOf scope values c.rule) columns
+pub no_rules : (scope : Scope) (values : List Value) (columns : List ColumnDef) → list_all takes_all columns ≡ true → AllByRecursion (λ (c : ColumnDef). IsTrueOf scope values c.rule) columns
 no_rules scope values [] h = tt
 no_rules scope values (c ∷ columns) h =
     let both = two_parts (takes_all c) (list_all takes_all columns) h in
@@ -63,11 +64,11 @@ tables_meet zero row (t ∷ tables) h m = (rows_meet t row t.rows h m.0, m.1)
 tables_meet (suc n) row (t ∷ tables) h m = (m.0, tables_meet n row tables h m.1)
 
 -- no unique index is broken where there is none
-none_broken : (tables : List Table) (is : List Index) → list_any (λ (i : Index). i.unique) is ≡ false → option_map (λ (i : Index). i.name) (find (is_broken tables) is) ≡ None
+pub none_broken : (tables : List Table) (is : List Index) → list_any (λ (i : Index). i.unique) is ≡ false → option_map (λ (i : Index). i.name) (find (is_broken tables) is) ≡ None
 none_broken tables [] h = refl
 none_broken tables (i ∷ is) h = let p = or_parts i.unique (list_any (λ (i : Index). i.unique) is) h in rw p.0 (none_broken tables is p.1)
 
-length_same : (tables : List Table) → length (map table_schema tables) ≡ length tables
+pub length_same : (tables : List Table) → length (map table_schema tables) ≡ length tables
 length_same [] = refl
 length_same (t ∷ tables) = ap suc (length_same tables)
 

@@ -2,6 +2,8 @@ pub mod Rows
 pub mod Kept
 pub mod Added
 pub mod Scanned
+pub mod RowChanged
+pub mod Onward
 pub mod Fitted
 pub mod Small
 pub mod ReadBack
@@ -12,8 +14,13 @@ pub mod Planned
 pub mod Sourced
 pub mod Selected
 pub mod Exits
+pub mod Rounds
+pub mod Assigned
+pub mod Dropped
 pub mod Carried
+pub mod Tabled
 pub mod Checked
 pub mod LawfulTables
 pub mod LawfulRows
+pub mod LawfulChanges
 pub mod LawfulEffects

@@ -27,7 +27,7 @@ use Rattle.ql_exec.specs.declared.fault.ExecFault.TheVariants as fault
 use Rattle.ql_exec.specs.Scans.{table_types, rows_text, Added, Line, AddsLine, AddsText}
 use Rattle.ql_exec.proofs.Scanned.{GoesOn, next_found, none_found, turn_on, turn_stops, at_start, at_end}
 
-rise_at : (db : Db) (n : ℕ) (tables : List Table) → AllByRecursion (HoldsRows db) tables → Rise 1 (rows_if (slice_get tables n))
+pub rise_at : (db : Db) (n : ℕ) (tables : List Table) → AllByRecursion (HoldsRows db) tables → Rise 1 (rows_if (slice_get tables n))
 rise_at db n [] h = tt
 rise_at db zero (t ∷ tables) h = h.0.rise
 rise_at db (suc n) (t ∷ tables) h = rise_at db n tables h.1
@@ -80,7 +80,7 @@ last_on fields table after x before now (Some d) p n e g h =
     at_end fields (filter (is_after after) rows) (rows_text fields rows) before now (none_found after rows none) g
 
 -- the values of a row have the types of its table
-kinds_fit : (columns : List ColumnDef) (values : List Value) → Fits columns values → FitsRow (map (λ (c : ColumnDef). OfKind c.kind) columns) values
+pub kinds_fit : (columns : List ColumnDef) (values : List Value) → Fits columns values → FitsRow (map (λ (c : ColumnDef). OfKind c.kind) columns) values
 kinds_fit [] [] h = tt
 kinds_fit [] (x ∷ values) h = absurd h
 kinds_fit (c ∷ columns) [] h = absurd h
@@ -90,7 +90,7 @@ pub typed_each : (types : List Typing) (row : List Value) (fields : List Typed) 
 typed_each types row [] f h = tt
 typed_each types row (e ∷ fields) f h = (record { types = types; fits = f; typed = h.0 }, typed_each types row fields f h.1)
 
-id_fits : (id : ℕ) → id ≤ last_id → HasKind k.Int64 (v.Int k.Int64 (pos id))
+pub id_fits : (id : ℕ) → id ≤ last_id → HasKind k.Int64 (v.Int k.Int64 (pos id))
 id_fits id h = search rules
 
 -- the fields have values at a row of the table

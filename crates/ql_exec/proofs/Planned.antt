@@ -51,11 +51,11 @@ stands_if : (b : Bool) (place : ℕ) (u t : TableSchema) (tables : List TableSch
 stands_if true place u t tables next e h = (omega arith, e)
 stands_if false place u t tables next e h = let r = h e in (omega (arith, r.0), r.1)
 
-stands_at : (name : List ℕ) (tables : List TableSchema) (t : TableSchema) → table_named name tables ≡ Some t → (place_named name tables < length tables) × (slice_get tables (place_named name tables) ≡ Some t)
+pub stands_at : (name : List ℕ) (tables : List TableSchema) (t : TableSchema) → table_named name tables ≡ Some t → (place_named name tables < length tables) × (slice_get tables (place_named name tables) ≡ Some t)
 stands_at name [] t e = absurd (cc)
 stands_at name (u ∷ tables) t e = stands_if (bytes_eq u.name name) (place_named name tables) u t tables (table_named name tables) e (stands_at name tables t)
 
-columns_there : (name : List ℕ) (schema : Schema) (t : TableSchema) → table_named name schema.tables ≡ Some t → columns_at (place_named name schema.tables) schema ≡ t.columns
+pub columns_there : (name : List ℕ) (schema : Schema) (t : TableSchema) → table_named name schema.tables ≡ Some t → columns_at (place_named name schema.tables) schema ≡ t.columns
 columns_there name schema t e = ap columns_if (stands_at name schema.tables t e).1
 
 there_is : (name : List ℕ) (o : Option TableSchema) (t : TableSchema) → table_there name o ≡ Ok t → o ≡ Some t
@@ -66,7 +66,7 @@ known_if : (b : Bool) (r : Refusal) (name : List ℕ) (o : Option TableSchema) (
 known_if true r name o t e = absurd (cc)
 known_if false r name o t e = there_is name o t e
 
-known_is : (name : List ℕ) (schema : Schema) (t : TableSchema) → known_table name schema ≡ Ok t → table_named name schema.tables ≡ Some t
+pub known_is : (name : List ℕ) (schema : Schema) (t : TableSchema) → known_table name schema ≡ Ok t → table_named name schema.tables ≡ Some t
 known_is name schema t e = known_if (is_metadata name) (record { number = 9; name = name }) name (table_named name schema.tables) t e
 
 -- what the plan of an INSERT of rows for all columns says: its table is there, and its rows have the columns' kinds
@@ -75,7 +75,7 @@ pub record Inserts (schema : Schema) (name : List ℕ) (p : Plan) : Type 0 where
   pub typed : RowsTyped (columns_at (place_named name schema.tables) schema) p.rows
   pub takes : TakesRows (place_named name schema.tables) schema
 
-checked_if : (b : Bool) (r : Refusal) (u : Unit {0}) → ◌≡◌ {A = Answer (Unit {0})} (if b then Ok tt else Err r) (Ok u) → b ≡ true
+pub checked_if : (b : Bool) (r : Refusal) (u : Unit {0}) → ◌≡◌ {A = Answer (Unit {0})} (if b then Ok tt else Err r) (Ok u) → b ≡ true
 checked_if true r u e = refl
 checked_if false r u e = absurd (cc)
 
@@ -148,7 +148,7 @@ pub record Seen (schema : Schema) (name : List ℕ) (fields : List Typed) : Type
   pub there : place_named name schema.tables < length schema.tables
   pub typed : AreTyped (type_of (table_types (columns_at (place_named name schema.tables) schema))) fields
 
-types_of : (set : List ℕ) (columns : List ColumnDef) → slot_types (column_slots set columns) ≡ map (λ (c : ColumnDef). OfKind c.kind) columns
+pub types_of : (set : List ℕ) (columns : List ColumnDef) → slot_types (column_slots set columns) ≡ map (λ (c : ColumnDef). OfKind c.kind) columns
 types_of set [] = refl
 types_of set (c ∷ columns) = ap (λ (ts : List Typing). OfKind c.kind ∷ ts) (types_of set columns)
 

@@ -15,7 +15,7 @@ use Rattle.ql_exec.specs.Scans.{rows_text, Added}
 pub same_row : (a b : Row) → ◌≡◌ {A = Option Row} (Some a) (Some b) → a ≡ b
 same_row a b e = cc
 
-all_after : (b from : ℕ) (rows : List Row) → Rise from rows → b < from → filter (is_after b) rows ≡ rows
+pub all_after : (b from : ℕ) (rows : List Row) → Rise from rows → b < from → filter (is_after b) rows ≡ rows
 all_after b from [] h l = refl
 all_after b from (x ∷ rows) h l =
     let rest = all_after b (x.id + 1) rows h.1 (omega (arith, h.0)) in

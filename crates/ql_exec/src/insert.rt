@@ -63,7 +63,7 @@ pub(crate) fn add_rows<R: Rel>(
 }
 
 /// The place of the table with a name, that behind the last one where there is none.
-fn place_named(tables: &[TableSchema], name: &Name) -> usize
+pub(crate) fn place_named(tables: &[TableSchema], name: &Name) -> usize
     ensures { result ≡ spec.place_named name.now tables.now }
 {
     let mut place = 0;

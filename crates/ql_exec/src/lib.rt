@@ -1,7 +1,9 @@
 //! Statements, carried out on any relation.
 #![tactic(auto)]
 
+mod change;
 mod create;
+mod drop;
 mod execution;
 mod fault;
 mod insert;
@@ -12,7 +14,9 @@ mod statement;
 mod text;
 mod values;
 
+pub use change::change_table;
 pub use create::create_table;
+pub use drop::{drop_table, truncate_table};
 pub use execution::exec;
 pub use fault::ExecFault;
 pub use insert::insert_rows;

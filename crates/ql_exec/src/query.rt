@@ -24,7 +24,7 @@ use ql_value::{Kind, Value, Values};
 use std::alloc::Global;
 
 /// A row of a table as expressions see it: its id, then its values.
-fn set_row(alloc: Global, id: u64, values: Values) -> Result<Values, NoMemory>
+pub(crate) fn set_row(alloc: Global, id: u64, values: Values) -> Result<Values, NoMemory>
     ensures { IfOk result (λ row. row ≡ spec.set_row (record { id = id; values = values })) }
 {
     let mut row = Values::with_capacity(alloc, values.len().saturating_add(1))?;
@@ -61,7 +61,7 @@ fn add_row(alloc: Global, fields: &Typeds, row: Row, text: &mut Bytes) -> Result
 }
 
 /// The first row of a table whose id is over `after`. An id over the greatest is of a damaged content.
-fn next_row<R: Rel>(
+pub(crate) fn next_row<R: Rel>(
     alloc: Global,
     rel: &mut R,
     table: u32,

@@ -10,7 +10,9 @@ ghost use Rattle.ql_exec.specs.Depths.{IsDeepEnough};
 ghost use Rattle.ql_exec.specs.WholeRows.{are_whole};
 
 use crate::ExecFault;
+use crate::change::change_table;
 use crate::create::create_table;
+use crate::drop::{drop_table, truncate_table};
 use crate::fault::refusal;
 use crate::insert::insert_rows;
 use crate::select::add_select;
@@ -65,6 +67,7 @@ pub fn carry<R: Rel>(
             }
             create_table(alloc, rel, table, columns)
         }
+        Statement::DropTable { quiet, table } => drop_table(alloc, rel, *quiet, table),
         Statement::Insert {
             table,
             columns,
@@ -75,6 +78,9 @@ pub fn carry<R: Rel>(
             }
             insert_rows(alloc, rel, table, plan)
         }
+        Statement::Update { table, .. } => change_table(alloc, rel, table, false, plan),
+        Statement::Delete { table, .. } => change_table(alloc, rel, table, true, plan),
+        Statement::Truncate { table } => truncate_table(alloc, rel, table),
         _ => Err(refusal(alloc, LATER)),
     }
 }

@@ -20,7 +20,7 @@ use std::alloc::Global;
 pub(crate) type ValueRows = Items<Values>;
 
 /// The value of an expression at a row.
-fn value_of(alloc: Global, expr: &Typed, row: &[Value]) -> Result<Value, ExecFault>
+pub(crate) fn value_of(alloc: Global, expr: &Typed, row: &[Value]) -> Result<Value, ExecFault>
     requires { WellTyped row.now expr.now }
     ensures { Answers (spec.answer_of (value_at row.now expr.now)) result }
 {

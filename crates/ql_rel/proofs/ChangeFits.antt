@@ -105,8 +105,9 @@ IsOver name p columns = ChangeTyped (slot_types (set_slots name columns)) column
 
 update_typed : (schema : Schema) (name : List ℕ) (sets : List Assign) (filter : Option Expr) (p : Plan) → update_plan schema name sets filter ≡ Ok p → IsOver name p (columns_named name schema)
 update_typed schema name sets filter p e =
-    let t = then_ok (known_table name schema) (λ table. changes_of (table_scope name table.columns) table.columns sets filter) p e in
-    subst (IsOver name p) (sym (known_columns name schema t.0 t.1)) (changes_typed name t.0.columns sets filter p t.2)
+    let t = then_ok (known_table name schema) (λ table. then_with (without_checks schema table.columns) (λ _. changes_of (table_scope name table.columns) table.columns sets filter)) p e in
+    let c = then_ok (without_checks schema t.0.columns) (λ _. changes_of (table_scope name t.0.columns) t.0.columns sets filter) p t.2 in
+    subst (IsOver name p) (sym (known_columns name schema t.0 t.1)) (changes_typed name t.0.columns sets filter p c.2)
 
 delete_typed : (schema : Schema) (name : List ℕ) (filter : Option Expr) (p : Plan) → delete_plan schema name filter ≡ Ok p → IsOver name p (columns_named name schema)
 delete_typed schema name filter p e =

@@ -93,7 +93,7 @@ pub have_values : (n id : ℕ) (values : List Value) (db : Db) → HaveIds db �
 have_values n id values db h =
     have_changed db.next_id n (map (with_values id values)) db.tables (λ t k. record { rise = rise_values 1 id values t.rows k.rise; below = below_values db.next_id id values t.rows k.below }) h
 
-rise_down : (a b : ℕ) (rows : List Row) → b ≤ a → Rise a rows → Rise b rows
+pub rise_down : (a b : ℕ) (rows : List Row) → b ≤ a → Rise a rows → Rise b rows
 rise_down a b [] l h = tt
 rise_down a b (r ∷ rows) l h = (omega (arith, h.0), h.1)
 

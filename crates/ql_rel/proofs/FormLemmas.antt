@@ -13,7 +13,7 @@ use Rattle.ql_rel.specs.declared.fault.RelFault.TheVariants as fault
 use Rattle.ql_rel.specs.declared.schema.Index.{Index}
 use Rattle.ql_rel.specs.declared.schema.Schema.{Schema}
 use Rattle.ql_rel.specs.Changes.{changed_at, with_rows, rows_changed, with_row, row_of, with_values, is_other, no_rows, inserted, changed, removed, truncated}
-use Rattle.ql_rel.specs.Databases.{empty_db, schema_of, table_schema, columns_if, name_if, columns_at, name_at}
+use Rattle.ql_rel.specs.Databases.{empty_db, schema_of, table_schema, columns_if, name_if, columns_at, name_at, rows_if, rows_at}
 use Rattle.ql_rel.specs.Limits.{row_too_long, first_long_key, IsWithin}
 use Rattle.ql_rel.specs.Names.{IsByName, table_names}
 use Rattle.ql_rel.specs.Refusals.{row_refusal, insert_refusal, change_refusal, or_next, refused_if, key_refusal, are_ids_spent}
@@ -78,8 +78,18 @@ none_left n f [] e = refl
 none_left zero f (x ∷ xs) e = absurd (cc)
 none_left (suc n) f (x ∷ xs) e = absurd (cc)
 
+kept_in : (db : Db) (n : ℕ) (tables : List Table) → AllByRecursion (HoldsRows db) tables
+    → Keeps db.next_id (name_if (slice_get (map table_schema tables) n)) (columns_if (slice_get (map table_schema tables) n)) db.indexes (rows_if (slice_get tables n))
+kept_in db n [] h = record { fit = tt; rise = tt; below = tt; short = tt }
+kept_in db zero (t ∷ tables) h = to_keeps db t h.0
+kept_in db (suc n) (t ∷ tables) h = kept_in db n tables h.1
+
+-- what the rows of the table at a place keep
+pub kept_at : (db : Db) (n : ℕ) → IsWellFormed db → Keeps db.next_id (name_at n (schema_of db)) (columns_at n (schema_of db)) db.indexes (rows_at n db)
+kept_at db n w = kept_in db n db.tables w.rows
+
 -- a change of rows that keeps what the table holds
-well_rows : (db : Db) (n : ℕ) (f : List Row → List Row) → IsWellFormed db →
+pub well_rows : (db : Db) (n : ℕ) (f : List Row → List Row) → IsWellFormed db →
     ((rows : List Row) → Keeps db.next_id (name_at n (schema_of db)) (columns_at n (schema_of db)) db.indexes rows → Keeps db.next_id (name_at n (schema_of db)) (columns_at n (schema_of db)) db.indexes (f rows)) → IsWellFormed (rows_changed n f db)
 well_rows db n f w g = record {
   made = subst IsMade (sym (schema_kept n f db)) w.made;
@@ -146,13 +156,17 @@ all_filter P p (x ∷ xs) h =
     let rest = all_filter P p xs h.1 in
     elim (p x) as (λ b. AllByRecursion P (cond b (x ∷ filter p xs) (filter p xs))) [ true ↦ (h.0, rest) | false ↦ rest ]
 
-pub well_removed : (n id : ℕ) (db : Db) → IsWellFormed db → IsWellFormed (removed n id db)
-well_removed n id db w = well_rows db n (filter (is_other id)) w (λ rows k. record {
-  fit = all_filter (λ (r : Row). Fits (columns_at n (schema_of db)) r.values) (is_other id) rows k.fit;
-  rise = rise_filter 1 (is_other id) rows k.rise;
-  below = below_filter db.next_id (is_other id) rows k.below;
-  short = all_filter (IsShortAs (name_at n (schema_of db)) (columns_at n (schema_of db)) db.indexes) (is_other id) rows k.short;
+-- some of the rows of a table
+pub well_filtered : (n : ℕ) (p : Row → Bool) (db : Db) → IsWellFormed db → IsWellFormed (rows_changed n (filter p) db)
+well_filtered n p db w = well_rows db n (filter p) w (λ rows k. record {
+  fit = all_filter (λ (r : Row). Fits (columns_at n (schema_of db)) r.values) p rows k.fit;
+  rise = rise_filter 1 p rows k.rise;
+  below = below_filter db.next_id p rows k.below;
+  short = all_filter (IsShortAs (name_at n (schema_of db)) (columns_at n (schema_of db)) db.indexes) p rows k.short;
 })
+
+pub well_removed : (n id : ℕ) (db : Db) → IsWellFormed db → IsWellFormed (removed n id db)
+well_removed n id db w = well_filtered n (is_other id) db w
 
 pub well_truncated : (n : ℕ) (db : Db) → IsWellFormed db → IsWellFormed (truncated n db)
 well_truncated n db w = well_rows db n no_rows w (λ rows k. record { fit = tt; rise = tt; below = tt; short = tt })

@@ -10,9 +10,9 @@ pub mod Judged
 pub mod PlanFits
 pub mod SelectFits
 mod RowFits
-mod ChangeLemmas
+pub mod ChangeLemmas
 mod OtherLemmas
-mod FormLemmas
+pub mod FormLemmas
 mod NameLemmas
 mod AcceptLemmas
 mod TableForms

@@ -13,6 +13,7 @@ use Rattle.ql_rel.specs.declared.change.Target.{Target}
 use Rattle.ql_rel.specs.declared.plan.Plan.{Plan}
 use Rattle.ql_rel.specs.declared.schema.Schema.{Schema}
 use Rattle.ql_rel.specs.CreatePlans.{no_parts}
+use Rattle.ql_rel.specs.InsertPlans.{without_checks}
 use Rattle.ql_rel.specs.NewNames.{known_table}
 use Rattle.ql_rel.specs.Plans.{row_scope, set_slots, resolve_if}
 use Rattle.ql_rel.specs.Targets.{for_kind, new_target}
@@ -46,9 +47,11 @@ abbrev pub changes_of : Scope → List ColumnDef → List Assign → Option Expr
 changes_of scope columns sets filter =
     then_with (all_assigned scope columns [] sets) (λ changes. then_with (resolve_if is_truth scope filter) (λ f. Ok (changes_plan changes f)))
 
--- the plan of UPDATE: the table, 9 and then 1, and then its parts
+-- the plan of UPDATE: the table, 9 and then 1, what is not built yet, and then its parts
 abbrev pub update_plan : Schema → List ℕ → List Assign → Option Expr → Answer Plan
-update_plan schema name sets filter = then_with (known_table name schema) (λ table. changes_of (table_scope name table.columns) table.columns sets filter)
+update_plan schema name sets filter =
+    then_with (known_table name schema) (λ table.
+    then_with (without_checks schema table.columns) (λ _. changes_of (table_scope name table.columns) table.columns sets filter))
 
 -- the plan of DELETE: the table, 9 and then 1, and then WHERE
 abbrev pub delete_plan : Schema → List ℕ → Option Expr → Answer Plan

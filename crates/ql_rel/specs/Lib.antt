@@ -24,6 +24,8 @@ pub mod TablePlans
 pub mod ChangePlans
 pub mod StatementPlans
 pub mod SelectRows
+pub mod Refused
+pub mod ChangeEffects
 pub mod StatementEffects
 pub mod Events
 pub mod Courses

@@ -1,5 +1,5 @@
 -- What a statement does to a database, and the text that it shows.
-use Rattle.std.specs.Prelude.{ℕ, Bool, false, List, [], ◌∷◌, map, Option, Some, None, Ok}
+use Rattle.std.specs.Prelude.{ℕ, Bool, true, false, if◌then◌else◌, List, [], ◌∷◌, map, Ok}
 use Rattle.ql_value.specs.declared.refusal.TheConstants.{LATER}
 use Rattle.ql_value.specs.declared.value.Value.{Value}
 use Rattle.ql_syntax.specs.declared.statement.RowSource.TheVariants as source
@@ -7,28 +7,19 @@ use Rattle.ql_syntax.specs.declared.statement.Statement.{Statement}
 use Rattle.ql_syntax.specs.declared.statement.Statement.TheVariants as s
 use Rattle.ql_syntax.specs.declared.typed.Typed.{Typed}
 use Rattle.ql_rel.specs.declared.db.Db.{Db}
-use Rattle.ql_rel.specs.declared.fault.RelFault.{RelFault}
-use Rattle.ql_rel.specs.declared.fault.RelFault.TheVariants as fault
-use Rattle.ql_value.specs.declared.refusal.TheConstants.{ROW_TOO_LONG, KEY_TOO_LONG, IDS_SPENT, TABLE_LIMIT_REFUSAL}
 use Rattle.ql_rel.specs.declared.plan.Plan.{Plan}
 use Rattle.ql_rel.specs.declared.schema.TableSchema.{TableSchema}
-use Rattle.ql_syntax.specs.Answers.{Answer, refused, refused_at, then_with, all_of}
-use Rattle.ql_rel.specs.Changes.{inserted, table_created}
+use Rattle.ql_syntax.specs.Answers.{Answer, refused, then_with, all_of}
+use Rattle.ql_rel.specs.ChangeEffects.{changes}
+use Rattle.ql_rel.specs.Changes.{inserted, truncated, table_created, table_dropped}
 use Rattle.ql_rel.specs.Databases.{schema_of}
 use Rattle.ql_rel.specs.NewNames.{place_named}
 use Rattle.ql_rel.specs.Refusals.{insert_refusal, table_refusal}
+use Rattle.ql_rel.specs.Refused.{unless}
 use Rattle.ql_rel.specs.Rows.{values_of}
 use Rattle.ql_rel.specs.SelectRows.{select_text}
 use Rattle.ql_rel.specs.StatementPlans.{statement_plan}
-
--- what is asked for, unless tables refuse it: 33, 34 with the index, 35, 36; trouble is no refusal, and no definition gives it
-abbrev pub unless : {A : Type 0} → Option RelFault → A → Answer A
-unless None x = Ok x
-unless (Some fault.RowTooLong) x = refused ROW_TOO_LONG
-unless (Some (fault.KeyTooLong index)) x = refused_at KEY_TOO_LONG index
-unless (Some fault.IdsSpent) x = refused IDS_SPENT
-unless (Some fault.TableLimit) x = refused TABLE_LIMIT_REFUSAL
-unless (Some (fault.Trouble _)) x = Ok x
+use Rattle.ql_rel.specs.TablePlans.{is_idle}
 
 -- a row is added to the table at a place, with the next id
 abbrev pub row_added : ℕ → List Value → Db → Answer Db
@@ -51,6 +42,14 @@ rows_values rows = all_of (map (values_of []) rows)
 abbrev pub inserts : List ℕ → List (List Typed) → Db → Answer Db
 inserts name rows db = then_with (rows_values rows) (λ values. rows_added (place_named name (schema_of db).tables) values db)
 
+-- the table with a name goes, if it is there
+abbrev pub drops : Bool → List ℕ → Db → Db
+drops quiet name db = if is_idle (schema_of db) (s.DropTable quiet name) then db else table_dropped (place_named name (schema_of db).tables) db
+
+-- the table with a name loses its rows
+abbrev pub empties : List ℕ → Db → Db
+empties name db = truncated (place_named name (schema_of db).tables) db
+
 -- a database without anything to show
 abbrev pub silent : Db → Answer (List ℕ × Db)
 silent db = Ok ([], db)
@@ -59,7 +58,11 @@ silent db = Ok ([], db)
 abbrev pub carried : Bool → Statement → Plan → Db → Answer (List ℕ × Db)
 carried with_names (s.Query select) p db = then_with (select_text with_names db select p) (λ text. Ok (text, db))
 carried with_names (s.CreateTable false name columns) p db = then_with (table_added (record { name = name; columns = columns }) db) silent
+carried with_names (s.DropTable quiet name) p db = silent (drops quiet name db)
 carried with_names (s.Insert name [] (source.Rows rows)) p db = then_with (inserts name p.rows db) silent
+carried with_names (s.Update name sets filter) p db = then_with (changes false name p db) silent
+carried with_names (s.Delete name filter) p db = then_with (changes true name p db) silent
+carried with_names (s.Truncate name) p db = silent (empties name db)
 carried with_names _ p db = refused LATER
 
 -- what a statement does: its plan, and then what is done by it; the truth says whether a SELECT's text begins with the names of its fields

@@ -1,6 +1,7 @@
 -- Each part is given what it asks for, and does what the statement does.
 use Rattle.std.proofs.Common.{length, sym, ◌∙◌}
-use Rattle.ql_exec.proofs.Carried.{query_planned, loud, quiet_does, create_level, create_planned, create_read, insert_level, insert_planned, query_does, create_does, others_do}
+use Rattle.ql_exec.proofs.Carried.{query_planned, loud, quiet_does, create_level, create_planned, create_read, insert_level, insert_planned, query_does, create_does, is_other, others_do}
+use Rattle.ql_exec.proofs.Tabled.{drop_level, update_level, delete_level, truncate_level, drop_planned, update_planned, delete_planned, truncate_planned, drop_does, update_does, delete_does, truncate_does}
 use Rattle.ql_exec.proofs.statement.carry.Goals as goal
 
 pub add_select-requires-clause-plan : goal.add_select-requires-clause-plan
@@ -45,6 +46,45 @@ insert_rows-requires-clause-typed g c =
     (insert_planned (g.R.Rel.schema c.args.rel.now) c.args.statement.now c.in-Insert.table c.in-Insert.columns c.in-Insert.source c.get-in-Insert.result.now c.args.plan.now
     c.in-Insert.is c.get-in-Insert.ensures (sym c.are_whole.ensures ∙ c.if-not-are_whole.false) c.requires.plan).typed
 
+pub drop_table-requires-clause-level : goal.drop_table-requires-clause-level
+drop_table-requires-clause-level g c = drop_level c.args.statement.now c.in-DropTable.quiet c.in-DropTable.table (length (g.R.Rel.saved c.args.rel.now)) c.in-DropTable.is c.requires.level
+
+pub drop_table-requires-clause-table : goal.drop_table-requires-clause-table
+drop_table-requires-clause-table g c =
+    drop_planned (g.R.Rel.schema c.args.rel.now) c.args.statement.now c.in-DropTable.quiet c.in-DropTable.table c.args.plan.now c.in-DropTable.is c.requires.plan
+
+pub returns-in-DropTable-clause-done : goal.returns-in-DropTable-clause-done
+returns-in-DropTable-clause-done g c =
+    drop_does c.args.with_names c.args.statement.now c.in-DropTable.quiet c.in-DropTable.table c.args.plan.now _ _ _ _ c.in-DropTable.is c.drop_table.ensures.done
+
+pub change_table-requires-clause-table : goal.change_table-requires-clause-table
+change_table-requires-clause-table g c =
+    (update_planned (g.R.Rel.schema c.args.rel.now) c.args.statement.now c.in-Update.table _ _ c.args.plan.now c.in-Update.is c.requires.plan).there
+
+pub change_table-requires-clause-typed : goal.change_table-requires-clause-typed
+change_table-requires-clause-typed g c =
+    (update_planned (g.R.Rel.schema c.args.rel.now) c.args.statement.now c.in-Update.table _ _ c.args.plan.now c.in-Update.is c.requires.plan).typed
+
+pub change_table-requires-in-Delete-clause-table : goal.change_table-requires-in-Delete-clause-table
+change_table-requires-in-Delete-clause-table g c =
+    (delete_planned (g.R.Rel.schema c.args.rel.now) c.args.statement.now c.in-Delete.table _ c.args.plan.now c.in-Delete.is c.requires.plan).there
+
+pub change_table-requires-in-Delete-clause-typed : goal.change_table-requires-in-Delete-clause-typed
+change_table-requires-in-Delete-clause-typed g c =
+    (delete_planned (g.R.Rel.schema c.args.rel.now) c.args.statement.now c.in-Delete.table _ c.args.plan.now c.in-Delete.is c.requires.plan).typed
+
+pub truncate_table-requires-clause-level : goal.truncate_table-requires-clause-level
+truncate_table-requires-clause-level g c = truncate_level c.args.statement.now c.in-Truncate.table (length (g.R.Rel.saved c.args.rel.now)) c.in-Truncate.is c.requires.level
+
+pub truncate_table-requires-clause-table : goal.truncate_table-requires-clause-table
+truncate_table-requires-clause-table g c =
+    truncate_planned (g.R.Rel.schema c.args.rel.now) c.args.statement.now c.in-Truncate.table c.args.plan.now c.in-Truncate.is c.requires.plan
+
+pub returns-in-Truncate-clause-done : goal.returns-in-Truncate-clause-done
+returns-in-Truncate-clause-done g c =
+    truncate_does c.args.with_names c.args.statement.now c.in-Truncate.table c.args.plan.now _ _ _ _ c.in-Truncate.is c.truncate_table.ensures.done
+
 pub returns-in_default-clause-done : goal.returns-in_default-clause-done
 returns-in_default-clause-done g c =
-    others_do (Unit {0}) c.args.with_names c.args.statement.now c.args.plan.now c.refusal-in_default.result _ _ _ _ c.refusal-in_default.ensures c.in_default.not-Query c.in_default.not-CreateTable c.in_default.not-Insert
+    others_do (Unit {0}) c.args.with_names c.args.statement.now c.args.plan.now c.refusal-in_default.result _ _ _ _ c.refusal-in_default.ensures
+    (is_other c.args.statement.now c.in_default.not-Query c.in_default.not-CreateTable c.in_default.not-DropTable c.in_default.not-Insert c.in_default.not-Update c.in_default.not-Delete c.in_default.not-Truncate)
