@@ -1,5 +1,5 @@
 -- The values that an UPDATE puts into a row fit its columns.
-use Rattle.std.proofs.Common.{◌≡◌, ℕ, zero, suc, ◌+◌, ◌<◌, ◌≤◌, Bool, true, false, List, [], ◌∷◌, ◌++◌, length, map, drop, slice_get, slice_index_or, slice_set, Option, Some, None, IfSome, Result, Ok, Err, refl, sym, ap, subst, ◌∙◌, arith}
+use Rattle.std.proofs.Common.{◌≡◌, ℕ, zero, suc, ◌+◌, ◌<◌, ◌≤◌, Bool, true, false, List, [], ◌∷◌, ◌++◌, length, drop, slice_get, slice_index_or, slice_set, Option, Some, None, IfSome, Result, Ok, Err, refl, sym, ap, subst, ◌∙◌, arith}
 use Rattle.std.specs.Prelude.{IsErrAnd}
 use Rattle.ql_value.specs.Kinds.{same_kind}
 use Rattle.ql_value.specs.Number.{HasKind}
@@ -8,7 +8,6 @@ use Rattle.ql_value.specs.declared.value.Value.{Value}
 use Rattle.ql_syntax.specs.declared.statement.ColumnDef.{ColumnDef}
 use Rattle.ql_syntax.specs.declared.typed.Typed.{Typed}
 use Rattle.ql_syntax.specs.declared.typing.Typing.{Typing}
-use Rattle.ql_syntax.specs.declared.typing.Typing.TheVariants.{OfKind}
 use Rattle.ql_syntax.specs.Answers.{Answer, then_with}
 use Rattle.ql_syntax.specs.Typing.{IsTyped, WellTyped, FitsRow, among, type_of}
 use Rattle.ql_syntax.specs.Values.{value_at}
@@ -29,14 +28,14 @@ use Rattle.ql_rel.specs.Rows.{answer_of, values_of}
 use Rattle.ql_rel.specs.SelectRows.{set_row}
 use Rattle.ql_rel.specs.WellFormed.{Fits}
 use Rattle.ql_rel.proofs.Fits.{then_ok, same_ok}
-use Rattle.ql_exec.specs.Answers.{Answers, AreTypedAt}
+use Rattle.ql_exec.specs.Answers.{Answers}
 use Rattle.ql_exec.specs.Carries.{Changes}
 use Rattle.ql_exec.specs.RowChanges.{Stands, row_changed}
 use Rattle.ql_exec.specs.Scans.{table_types}
 use Rattle.ql_exec.specs.declared.fault.ExecFault.{ExecFault}
 use Rattle.ql_exec.specs.declared.fault.ExecFault.TheVariants as fault
 use Rattle.ql_exec.proofs.Fitted.{typed_among, kind_of_type, comes_to}
-use Rattle.ql_exec.proofs.Lined.{kinds_fit, id_fits, typed_each}
+use Rattle.ql_exec.proofs.Lined.{kinds_fit, id_fits}
 use Rattle.ql_exec.proofs.RowChanged.{row_gone, row_new, row_stays}
 
 -- as many values as expressions
@@ -55,28 +54,28 @@ pub filter_typed : (types : List Typing) (row : List Value) (o : Option Typed) �
 filter_typed types row None f h = tt
 filter_typed types row (Some e) f h = record { types = types; fits = f; typed = typed_among _ (type_of types e) h }
 
-value_typed : (types : List Typing) (o : Option ColumnDef) (e : Typed) → IsValueFor types o e → IsTyped (type_of types e)
+value_typed : (types : List Typing) (o : Option ColumnDef) (e : Typed) → IsValueFor (type_of types) o e → IsTyped (type_of types e)
 value_typed types None e h = absurd h
 value_typed types (Some c) e h = typed_among (same_kind c.kind) (type_of types e) h
 
-pub values_typed : (types : List Typing) (columns : List ColumnDef) (targets : List ℕ) (fields : List Typed) → AreValuesFor types columns targets fields → AreTyped (type_of types) fields
+pub values_typed : (types : List Typing) (columns : List ColumnDef) (targets : List ℕ) (fields : List Typed) → AreValuesFor (type_of types) columns targets fields → AreTyped (type_of types) fields
 values_typed types columns [] [] h = tt
 values_typed types columns [] (e ∷ fields) h = absurd h
 values_typed types columns (at ∷ targets) [] h = absurd h
 values_typed types columns (at ∷ targets) (e ∷ fields) h = (value_typed types (slice_get columns at) e h.0, values_typed types columns targets fields h.1)
 
-pub targets_each : (types : List Typing) (columns : List ColumnDef) (targets : List ℕ) (fields : List Typed) → AreValuesFor types columns targets fields → length fields ≡ length targets
+pub targets_each : (types : List Typing) (columns : List ColumnDef) (targets : List ℕ) (fields : List Typed) → AreValuesFor (type_of types) columns targets fields → length fields ≡ length targets
 targets_each types columns [] [] h = refl
 targets_each types columns [] (e ∷ fields) h = absurd h
 targets_each types columns (at ∷ targets) [] h = absurd h
 targets_each types columns (at ∷ targets) (e ∷ fields) h = ap suc (targets_each types columns targets fields h.1)
 
-there_at : (types : List Typing) (columns : List ColumnDef) (at : ℕ) (e : Typed) → IsValueFor types (slice_get columns at) e → at < length columns
+there_at : (types : List Typing) (columns : List ColumnDef) (at : ℕ) (e : Typed) → IsValueFor (type_of types) (slice_get columns at) e → at < length columns
 there_at types [] at e h = absurd h
 there_at types (c ∷ columns) zero e h = omega arith
 there_at types (c ∷ columns) (suc at) e h = let rest = there_at types columns at e h in omega (arith, rest)
 
-pub targets_below : (types : List Typing) (columns : List ColumnDef) (targets : List ℕ) (fields : List Typed) (k d : ℕ) → AreValuesFor types columns targets fields → k < length targets → slice_index_or targets k d < length columns
+pub targets_below : (types : List Typing) (columns : List ColumnDef) (targets : List ℕ) (fields : List Typed) (k d : ℕ) → AreValuesFor (type_of types) columns targets fields → k < length targets → slice_index_or targets k d < length columns
 targets_below types columns [] fields k d h l = absurd (omega (arith, l))
 targets_below types columns (at ∷ targets) [] k d h l = absurd h
 targets_below types columns (at ∷ targets) (e ∷ fields) zero d h l = there_at types columns at e h.0
@@ -89,7 +88,7 @@ fits_each (c ∷ columns) [] h = absurd h
 fits_each (c ∷ columns) (x ∷ values) h = ap suc (fits_each columns values h.1)
 
 -- the places of new values are in the row
-pub places_below : (types : List Typing) (columns : List ColumnDef) (targets : List ℕ) (fields : List Typed) (r : Row) (row : List Value) → row ≡ set_row r → Fits columns r.values → AreValuesFor types columns targets fields
+pub places_below : (types : List Typing) (columns : List ColumnDef) (targets : List ℕ) (fields : List Typed) (r : Row) (row : List Value) → row ≡ set_row r → Fits columns r.values → AreValuesFor (type_of types) columns targets fields
     → (k d : ℕ) → k < length targets → slice_index_or targets k d + 1 < length row
 places_below types columns targets fields r row e fits h k d l =
     let below = targets_below types columns targets fields k d h l in
@@ -97,7 +96,7 @@ places_below types columns targets fields r row e fits h k d l =
     let long : length row ≡ suc (length r.values) = ap length e in
     omega (arith, below, same, long)
 
-fits_set : (types : List Typing) (columns : List ColumnDef) (values : List Value) (at : ℕ) (e : Typed) (x : Value) → Fits columns values → IsValueFor types (slice_get columns at) e
+fits_set : (types : List Typing) (columns : List ColumnDef) (values : List Value) (at : ℕ) (e : Typed) (x : Value) → Fits columns values → IsValueFor (type_of types) (slice_get columns at) e
     → ((kind : _) → IsTyped (among (same_kind kind) (type_of types e)) → HasKind kind x) → Fits columns (slice_set values at x)
 fits_set types [] [] at e x f h k = absurd h
 fits_set types [] (y ∷ values) at e x f h k = absurd f
@@ -105,7 +104,7 @@ fits_set types (c ∷ columns) [] at e x f h k = absurd f
 fits_set types (c ∷ columns) (y ∷ values) zero e x f h k = (k c.kind h, f.1)
 fits_set types (c ∷ columns) (y ∷ values) (suc at) e x f h k = (f.0, fits_set types columns values at e x f.1 h k)
 
-pub new_fits : (types : List Typing) (row : List Value) (columns : List ColumnDef) (targets : List ℕ) (fields : List Typed) (new values : List Value) → FitsRow types row → AreValuesFor types columns targets fields → values_of row fields ≡ Ok new → Fits columns values
+pub new_fits : (types : List Typing) (row : List Value) (columns : List ColumnDef) (targets : List ℕ) (fields : List Typed) (new values : List Value) → FitsRow types row → AreValuesFor (type_of types) columns targets fields → values_of row fields ≡ Ok new → Fits columns values
     → Fits columns (with_new targets new values)
 new_fits types row columns [] fields new values fr h e f = f
 new_fits types row columns (at ∷ targets) [] new values fr h e f = absurd h
@@ -159,8 +158,8 @@ goes_done removes table p r row meant result (Some d) new e m n k h =
     let here : is_meant p.filter (set_row r) ≡ Ok true = subst (λ (xs : List Value). is_meant p.filter xs ≡ Ok meant) e m ∙ ap Ok n in
     let none : row_becomes removes table (schema_of d) p r ≡ Ok [] = rw (here, k) refl in
     λ before after s.
-        let is : row_changed removes table p r before after d ≡ Ok (removed table r.id d) = in_place table d before after none ∙ put_at table d before (none_front after) ∙ ap Ok (sym (row_gone table r before after d s)) in
-        subst (λ (a : Answer Db). Changes a result new) (sym is) h
+    let is : row_changed removes table p r before after d ≡ Ok (removed table r.id d) = in_place table d before after none ∙ put_at table d before (none_front after) ∙ ap Ok (sym (row_gone table r before after d s)) in
+    subst (λ (a : Answer Db). Changes a result new) (sym is) h
 
 unless_then : (o : Option RelFault) (rows : List Row) (f : List Row → Db) → then_with (unless o rows) (λ rs. Ok (f rs)) ≡ unless o (f rows)
 unless_then None rows f = refl
@@ -183,12 +182,12 @@ puts_done removes table p r row values meant result (Some d) new e m n k v h =
     let same : with_new p.targets put.0 r.values ≡ values = same_ok (with_new p.targets put.0 r.values) values put.2 in
     let one : row_becomes removes table (schema_of d) p r ≡ unless (change_refusal table r.id values (schema_of d)) (row_of r.id values ∷ []) = rw (here, k, put.1, same) refl in
     λ before after s.
-        let f = λ (rows : List Row). rows_changed table (λ _. before ++ (rows ++ after)) d in
-        let is : row_changed removes table p r before after d ≡ unless (change_refusal table r.id values (schema_of d)) (changed table r.id values d) =
-            in_place_of table d before after one ∙ unless_then (change_refusal table r.id values (schema_of d)) (row_of r.id values ∷ []) f
-            ∙ ap (λ (rows : List Row). unless (change_refusal table r.id values (schema_of d)) (rows_changed table (λ _. before ++ rows) d)) (one_front (row_of r.id values) after)
-            ∙ ap (unless (change_refusal table r.id values (schema_of d))) (sym (row_new table values r before after d s)) in
-        subst (λ (a : Answer Db). Changes a result new) (sym is) h
+    let f = λ (rows : List Row). rows_changed table (λ _. before ++ (rows ++ after)) d in
+    let is : row_changed removes table p r before after d ≡ unless (change_refusal table r.id values (schema_of d)) (changed table r.id values d) =
+    in_place_of table d before after one ∙ unless_then (change_refusal table r.id values (schema_of d)) (row_of r.id values ∷ []) f
+    ∙ ap (λ (rows : List Row). unless (change_refusal table r.id values (schema_of d)) (rows_changed table (λ _. before ++ rows) d)) (one_front (row_of r.id values) after)
+    ∙ ap (unless (change_refusal table r.id values (schema_of d))) (sym (row_new table values r before after d s)) in
+    subst (λ (a : Answer Db). Changes a result new) (sym is) h
 
 stopped : (T : Type 0) {A : Type 0} (effect : Answer Db) (answer : Answer A) (f : ExecFault) (new : Option Db) → ((q : Refusal) → answer ≡ Err q → effect ≡ Err q) → Answers answer (Err f) → Changes {T = T} effect (Err f) new
 stopped T effect answer (fault.Refused q) new h a = h q a
@@ -217,5 +216,5 @@ values_stop T removes table p r row meant f (Err g) (Some d) new i e m n k a =
     let here : is_meant p.filter (set_row r) ≡ Ok true = subst (λ (xs : List Value). is_meant p.filter xs ≡ Ok meant) e m ∙ ap Ok n in
     let at : Answers {A = List Value} (then_with (values_of (set_row r) p.fields) (λ new. Ok (with_new p.targets new r.values))) (Err f) = subst (λ (xs : List Value). Answers {A = List Value} (then_with (values_of xs p.fields) (λ new. Ok (with_new p.targets new (drop 1 xs)))) (Err f)) e a in
     λ before after s. subst (λ (z : ExecFault). Changes {T = T} (row_changed removes table p r before after d) (Err z) new) (sym i)
-        (stopped T (row_changed removes table p r before after d) (then_with (values_of (set_row r) p.fields) (λ new. Ok (with_new p.targets new r.values))) f new
-        (λ q j. rw (here, k, stops_in (values_of (set_row r) p.fields) (λ new. with_new p.targets new r.values) q j) refl) at)
+    (stopped T (row_changed removes table p r before after d) (then_with (values_of (set_row r) p.fields) (λ new. Ok (with_new p.targets new r.values))) f new
+    (λ q j. rw (here, k, stops_in (values_of (set_row r) p.fields) (λ new. with_new p.targets new r.values) q j) refl) at)

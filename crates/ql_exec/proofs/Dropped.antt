@@ -1,8 +1,7 @@
 -- A table that is dropped or loses its rows.
-use Rattle.std.proofs.Common.{◌≡◌, ℕ, suc, ◌<◌, ◌≤◌, Bool, true, false, not, ◌&&◌, ◌||◌, ◌==◌, if◌then◌else◌, List, [], ◌∷◌, length, map, Option, Some, None, option_map, IfSome, Result, Ok, Err, refl, sym, ap, subst, ◌∙◌, arith}
+use Rattle.std.proofs.Common.{◌≡◌, ℕ, suc, Bool, true, false, not, ◌||◌, ◌==◌, if◌then◌else◌, List, [], ◌∷◌, length, Option, Some, None, option_map, IfSome, Ok, Err, refl, sym, ap, subst, ◌∙◌, arith}
 use Rattle.std.proofs.lemmas.Bool.Decides.{nat_tests}
 use Rattle.std.specs.Str.{bytes_eq}
-use Rattle.ql_syntax.specs.Answers.{Answer}
 use Rattle.ql_syntax.specs.declared.statement.Statement.TheVariants as s
 use Rattle.ql_rel.specs.declared.db.Db.{Db}
 use Rattle.ql_rel.specs.declared.fault.RelFault.{RelFault}
@@ -16,7 +15,7 @@ use Rattle.ql_rel.specs.Refusals.{IsRefusedBy}
 use Rattle.ql_rel.specs.StatementEffects.{drops, empties}
 use Rattle.ql_rel.specs.TablePlans.{is_idle}
 use Rattle.ql_exec.specs.Answers.{fault_of_rel}
-use Rattle.ql_exec.specs.Carries.{Changed, Changes}
+use Rattle.ql_exec.specs.Carries.{Changes}
 use Rattle.ql_exec.proofs.Added.{refused_change}
 
 same_suc : (n m : ℕ) → (suc n == suc m) ≡ (n == m)

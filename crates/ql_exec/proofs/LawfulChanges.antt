@@ -1,11 +1,10 @@
 -- Rows that go or get other values leave a database lawful, and so does a table that goes.
-use Rattle.std.proofs.Common.{◌≡◌, ℕ, zero, suc, ◌+◌, ◌<◌, ◌≤◌, Bool, true, false, cond, not, ◌&&◌, ◌||◌, ◌==◌, if◌then◌else◌, List, [], ◌∷◌, ◌++◌, length, map, filter, find, flat_map, remove, slice_get, Option, Some, None, option_map, Ok, Err, refl, sym, ap, subst, ◌∙◌, arith}
+use Rattle.std.proofs.Common.{◌≡◌, ℕ, zero, suc, ◌+◌, ◌<◌, ◌≤◌, Bool, true, false, cond, not, ◌&&◌, if◌then◌else◌, List, [], ◌∷◌, ◌++◌, length, map, filter, find, flat_map, remove, slice_get, Option, Some, None, option_map, Ok, Err, refl, sym, ap, subst, ◌∙◌, arith}
 use Rattle.std.proofs.lemmas.Slice.Eq.{bytes_eq-Decides}
 use Rattle.std.specs.List.{list_any, list_all, AllByRecursion}
 use Rattle.std.specs.Str.{bytes_eq}
 use Rattle.ql_value.specs.declared.value.Value.{Value}
 use Rattle.ql_syntax.specs.declared.statement.ColumnDef.{ColumnDef}
-use Rattle.ql_syntax.specs.declared.typed.Typed.{Typed}
 use Rattle.ql_syntax.specs.Answers.{Answer, then_with, all_of}
 use Rattle.ql_rel.specs.declared.db.Db.{Db}
 use Rattle.ql_rel.specs.declared.db.Row.{Row}
@@ -15,9 +14,8 @@ use Rattle.ql_rel.specs.declared.fault.RelFault.TheVariants as rel
 use Rattle.ql_rel.specs.declared.plan.Plan.{Plan}
 use Rattle.ql_rel.specs.declared.schema.Index.{Index}
 use Rattle.ql_rel.specs.declared.schema.Schema.{Schema}
-use Rattle.ql_rel.specs.declared.schema.TableSchema.{TableSchema}
 use Rattle.ql_rel.specs.ChangeEffects.{is_meant, with_new, becomes, row_becomes, rows_become, table_changed}
-use Rattle.ql_rel.specs.Changes.{changed_at, with_rows, rows_changed, row_of, no_rows, truncated, is_of_other, id_after, table_dropped}
+use Rattle.ql_rel.specs.Changes.{changed_at, with_rows, rows_changed, row_of, no_rows, truncated, is_of_other, table_dropped}
 use Rattle.ql_rel.specs.CreatePlans.{takes_all}
 use Rattle.ql_rel.specs.Databases.{table_schema, schema_of, name_if, name_at, columns_if, columns_at, rows_at}
 use Rattle.ql_rel.specs.FormLaws.{FormLaws}
@@ -29,10 +27,10 @@ use Rattle.ql_rel.specs.Refusals.{refused_if, or_next, key_refusal, change_refus
 use Rattle.ql_rel.specs.Refused.{unless}
 use Rattle.ql_rel.specs.Rows.{values_of}
 use Rattle.ql_rel.specs.SelectRows.{set_row}
-use Rattle.ql_rel.specs.WellFormed.{Fits, AllFit, Rise, AllBelow, IsWellFormed}
+use Rattle.ql_rel.specs.WellFormed.{Fits, AllFit, Rise, AllBelow}
 use Rattle.ql_rel.proofs.ChangeLemmas.{rise_down}
 use Rattle.ql_rel.proofs.Fits.{then_ok, same_ok}
-use Rattle.ql_rel.proofs.FormLemmas.{IsShortAs, Keeps, short_row, well_rows, well_filtered, kept_at}
+use Rattle.ql_rel.proofs.FormLemmas.{IsShortAs, short_row, well_rows, well_filtered, kept_at}
 use Rattle.ql_exec.specs.Scans.{table_types}
 use Rattle.ql_exec.proofs.Assigned.{row_fits_types, new_fits}
 use Rattle.ql_exec.proofs.Kept.{or_parts}

@@ -1,7 +1,6 @@
 -- UPDATE and DELETE go over the rows of a table by rising id.
-use Rattle.std.proofs.Common.{◌≡◌, ℕ, zero, suc, ◌+◌, ◌<◌, ◌≤◌, Bool, true, false, if◌then◌else◌, List, [], ◌∷◌, ◌++◌, length, map, filter, find, flat_map, Option, Some, None, IfSome, Result, Ok, Err, refl, sym, ap, subst, ◌∙◌, arith, append_assoc, append-nil}
+use Rattle.std.proofs.Common.{◌≡◌, ℕ, ◌<◌, ◌≤◌, Bool, true, false, if◌then◌else◌, List, [], ◌∷◌, ◌++◌, length, map, filter, find, flat_map, Option, Some, None, IfSome, Ok, Err, refl, sym, ap, subst, ◌∙◌, arith, append_assoc}
 use Rattle.std.specs.List.{AllByRecursion}
-use Rattle.std.specs.Prelude.{IsErrAnd}
 use Rattle.ql_value.specs.declared.refusal.Refusal.{Refusal}
 use Rattle.ql_value.specs.declared.value.Value.{Value}
 use Rattle.ql_rel.specs.declared.db.Db.{Db}
@@ -21,10 +20,8 @@ use Rattle.ql_rel.specs.Rows.{values_of}
 use Rattle.ql_rel.specs.SelectRows.{set_row}
 use Rattle.ql_rel.specs.WellFormed.{Rise}
 use Rattle.ql_rel.proofs.Fits.{then_ok, same_ok}
-use Rattle.ql_exec.specs.Carries.{Changed, Changes}
+use Rattle.ql_exec.specs.Carries.{Changed}
 use Rattle.ql_exec.specs.RowChanges.{Stands, row_changed}
-use Rattle.ql_exec.specs.declared.fault.ExecFault.{ExecFault}
-use Rattle.ql_exec.specs.declared.fault.ExecFault.TheVariants as fault
 use Rattle.ql_exec.proofs.Kept.{schema_kept}
 use Rattle.ql_exec.proofs.RowChanged.{rows_twice, rows_same, row_behind, stands_next}
 use Rattle.ql_exec.proofs.Scanned.{all_after, next_found, none_found}

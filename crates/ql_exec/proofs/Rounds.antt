@@ -1,5 +1,5 @@
 -- A round of UPDATE and DELETE, over a relation whose database may be told.
-use Rattle.std.proofs.Common.{◌≡◌, ℕ, ◌<◌, ◌≤◌, Bool, true, false, ◌==◌, nat_lt, List, [], ◌∷◌, length, filter, find, map, Option, Some, None, IfSome, Result, Ok, Err, refl, sym, ap, subst, ◌∙◌, arith}
+use Rattle.std.proofs.Common.{◌≡◌, ℕ, ◌<◌, Bool, true, false, ◌==◌, nat_lt, List, [], ◌∷◌, length, filter, find, Option, Some, None, IfSome, Result, Ok, Err, refl, sym, ap, subst, ◌∙◌, arith}
 use Rattle.std.proofs.lemmas.Bool.Decides.{nat_tests}
 use Rattle.std.specs.Prelude.{IsErrAnd, IsSome}
 use Rattle.ql_rel.specs.declared.db.Db.{Db}
@@ -8,7 +8,6 @@ use Rattle.ql_rel.specs.declared.plan.Plan.{Plan}
 use Rattle.ql_rel.specs.declared.schema.Schema.{Schema}
 use Rattle.ql_syntax.specs.Answers.{Answer}
 use Rattle.ql_rel.specs.ChangeEffects.{table_changed, changes}
-use Rattle.ql_rel.specs.Changes.{rows_changed}
 use Rattle.ql_rel.specs.Databases.{schema_of, rows_at}
 use Rattle.ql_rel.specs.NewNames.{place_named}
 use Rattle.ql_rel.specs.Rels.{has_id, is_after, row_after, row_with}

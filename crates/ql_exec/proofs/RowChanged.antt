@@ -1,5 +1,5 @@
 -- Rows of one table that are changed where they stand.
-use Rattle.std.proofs.Common.{◌≡◌, ℕ, zero, suc, ◌+◌, ◌<◌, ◌≤◌, Bool, true, false, cond, ◌==◌, not, nat_lt, List, [], ◌∷◌, ◌++◌, length, map, filter, find, slice_get, Option, Some, None, refl, sym, ap, subst, ◌∙◌, arith}
+use Rattle.std.proofs.Common.{◌≡◌, ℕ, zero, suc, ◌<◌, ◌≤◌, Bool, true, false, ◌==◌, nat_lt, List, [], ◌∷◌, ◌++◌, length, map, filter, find, slice_get, Some, refl, sym, ap, subst, ◌∙◌, arith}
 use Rattle.std.proofs.lemmas.Bool.Decides.{nat_tests}
 use Rattle.std.specs.Prelude.{IsSome}
 use Rattle.std.specs.List.{AllByRecursion}
@@ -7,9 +7,8 @@ use Rattle.ql_value.specs.declared.value.Value.{Value}
 use Rattle.ql_rel.specs.declared.db.Db.{Db}
 use Rattle.ql_rel.specs.declared.db.Row.{Row}
 use Rattle.ql_rel.specs.declared.db.Table.{Table}
-use Rattle.ql_rel.specs.declared.schema.Schema.{Schema}
 use Rattle.ql_rel.specs.Changes.{changed_at, with_rows, rows_changed, row_of, with_values, is_other, changed, removed}
-use Rattle.ql_rel.specs.Databases.{schema_of, rows_if, rows_at}
+use Rattle.ql_rel.specs.Databases.{rows_if, rows_at}
 use Rattle.ql_rel.specs.Rels.{has_id, is_after, row_after, row_with}
 use Rattle.ql_exec.specs.RowChanges.{Stands}
 

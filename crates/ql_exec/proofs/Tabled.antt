@@ -1,5 +1,5 @@
 -- What the plans of statements on a table that is there say of it.
-use Rattle.std.proofs.Common.{◌≡◌, ℕ, ◌<◌, Bool, true, false, if◌then◌else◌, List, [], ◌∷◌, map, length, Option, Some, IfSome, Result, Ok, refl, sym, ap, subst}
+use Rattle.std.proofs.Common.{◌≡◌, ℕ, ◌<◌, Bool, true, false, if◌then◌else◌, List, [], ◌∷◌, length, Option, IfSome, Result, Ok, sym, subst}
 use Rattle.std.specs.List.{list_all}
 use Rattle.ql_value.specs.declared.value.Kind.TheVariants as k
 use Rattle.ql_syntax.specs.declared.statement.Assign.{Assign}
@@ -10,7 +10,6 @@ use Rattle.ql_syntax.specs.declared.syntax.Expr.{Expr}
 use Rattle.ql_syntax.specs.declared.typing.Typing.{Typing}
 use Rattle.ql_syntax.specs.declared.typing.Typing.TheVariants.{OfKind}
 use Rattle.ql_syntax.specs.Answers.{Answer, then_with}
-use Rattle.ql_syntax.specs.Resolving.{check_expr}
 use Rattle.ql_value.specs.Kinds.{is_truth}
 use Rattle.ql_rel.specs.declared.db.Db.{Db}
 use Rattle.ql_rel.specs.declared.plan.Plan.{Plan}
@@ -24,11 +23,11 @@ use Rattle.ql_rel.specs.InsertPlans.{takes_rows, without_checks}
 use Rattle.ql_rel.specs.NewNames.{known_table, place_named}
 use Rattle.ql_rel.specs.PlanTypes.{table_row, columns_named, slot_types, ChangeTyped}
 use Rattle.ql_rel.specs.Plans.{set_slots, resolve_if}
-use Rattle.ql_rel.specs.StatementEffects.{drops, empties, silent, carried}
+use Rattle.ql_rel.specs.StatementEffects.{drops, empties, carried}
 use Rattle.ql_rel.specs.StatementPlans.{statement_plan}
 use Rattle.ql_rel.specs.TablePlans.{is_idle, drop_plan, whole_plan}
 use Rattle.ql_rel.proofs.ChangeFits.{known_columns, statement_typed}
-use Rattle.ql_rel.proofs.Fits.{then_ok, same_ok}
+use Rattle.ql_rel.proofs.Fits.{then_ok}
 use Rattle.ql_exec.specs.Carries.{Changes, Does}
 use Rattle.ql_exec.specs.Depths.{IsDeepEnough}
 use Rattle.ql_exec.specs.Scans.{table_types}
@@ -70,12 +69,14 @@ update_says schema name sets filter p e =
     let t = then_ok (known_table name schema) (λ table. then_with (without_checks schema table.columns) (λ _. changes_of (table_scope name table.columns) table.columns sets filter)) p e in
     let c = then_ok (without_checks schema t.0.columns) (λ _. changes_of (table_scope name t.0.columns) t.0.columns sets filter) p t.2 in
     let test = takes_these schema t.0.columns (checked_if (takes_rows schema t.0.columns) (record { number = 10; name = [] }) c.0 c.1) in
-    let columns = columns_there name schema t.0 (known_is name schema t.0 t.1) in
-    (changing schema name t.0 p t.1 (statement_typed schema (s.Update name sets filter) p e), record {
-      there = known_there schema name t.0 t.1;
-      takes = subst (λ (cs : List ColumnDef). list_all takes_all cs ≡ true) (sym columns) test.1;
-      loose = test.0;
-    })
+    let columns = columns_there name schema t.0 (known_is name schema t.0 t.1) in (
+      changing schema name t.0 p t.1 (statement_typed schema (s.Update name sets filter) p e),
+      record {
+        there = known_there schema name t.0 t.1;
+        takes = subst (λ (cs : List ColumnDef). list_all takes_all cs ≡ true) (sym columns) test.1;
+        loose = test.0;
+      },
+    )
 
 pub delete_says : (schema : Schema) (name : List ℕ) (filter : Option Expr) (p : Plan) → delete_plan schema name filter ≡ Ok p → Changing schema name p
 delete_says schema name filter p e =

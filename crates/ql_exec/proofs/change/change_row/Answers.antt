@@ -2,7 +2,7 @@
 use Rattle.std.proofs.Common.{◌∙◌}
 use Rattle.ql_rel.specs.Databases.{columns_at}
 use Rattle.ql_exec.specs.Scans.{table_types}
-use Rattle.ql_exec.proofs.Assigned.{row_fits_types, filter_typed, values_typed, targets_each, places_below, made_fits, stays_done, goes_done, puts_done, meant_stops, values_stop}
+use Rattle.ql_exec.proofs.Assigned.{row_fits_types, filter_typed, values_typed, targets_each, places_below, made_fits, stays_done, goes_done, puts_done}
 use Rattle.ql_exec.proofs.Lined.{typed_each}
 use Rattle.ql_exec.proofs.change.change_row.Goals as goal
 

@@ -3,7 +3,7 @@ use Rattle.std.proofs.Common.{◌≡◌, Option, IfSome, refl, sym, ◌∙◌, s
 use Rattle.ql_rel.specs.declared.db.Db.{Db}
 use Rattle.ql_rel.specs.Rels.{row_after}
 use Rattle.ql_exec.proofs.Onward.{Goes}
-use Rattle.ql_exec.proofs.Rounds.{first_goes, next_goes, next_stops, last_goes, cause_round, trouble_is, found_there}
+use Rattle.ql_exec.proofs.Rounds.{first_goes, next_goes, next_stops, last_goes, found_there}
 use Rattle.ql_exec.proofs.change.change_rows.Goals as goal
 
 pub rows-init : goal.rows-init

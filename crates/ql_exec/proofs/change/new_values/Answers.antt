@@ -1,5 +1,5 @@
 -- As many new values as places.
-use Rattle.std.proofs.Common.{◌≡◌, ℕ, List, length, ap, sym, ◌∙◌}
+use Rattle.std.proofs.Common.{ℕ, List, length, ap, sym, ◌∙◌}
 use Rattle.ql_exec.proofs.Assigned.{values_each}
 use Rattle.ql_exec.proofs.change.new_values.Goals as goal
 

@@ -1,7 +1,7 @@
 -- Each part is given what it asks for, and does what the statement does.
 use Rattle.std.proofs.Common.{length, sym, ◌∙◌}
 use Rattle.ql_exec.proofs.Carried.{query_planned, loud, quiet_does, create_level, create_planned, create_read, insert_level, insert_planned, query_does, create_does, is_other, others_do}
-use Rattle.ql_exec.proofs.Tabled.{drop_level, update_level, delete_level, truncate_level, drop_planned, update_planned, delete_planned, truncate_planned, drop_does, update_does, delete_does, truncate_does}
+use Rattle.ql_exec.proofs.Tabled.{drop_level, truncate_level, drop_planned, update_planned, delete_planned, truncate_planned, drop_does, truncate_does}
 use Rattle.ql_exec.proofs.statement.carry.Goals as goal
 
 pub add_select-requires-clause-plan : goal.add_select-requires-clause-plan
