@@ -1,0 +1,212 @@
+"""What statements do to tables, a second time: CREATE TABLE, INSERT of rows, UPDATE, DELETE, TRUNCATE and DROP TABLE over
+columns of int64, and SELECT of fields over one table.
+
+An expression is a pair: its text, and a function of a row (a dict of names, with "id()") that gives its value, None for NULL,
+or raises `Refused`. It is written from docs/LANGUAGE.md and not from the program.
+"""
+import random
+
+LEAST, GREATEST = -(1 << 63), (1 << 63) - 1
+
+
+class Refused(Exception):
+    """A statement is refused: its number, word and name."""
+
+
+def wrapped(number):
+    return (number - LEAST) % (1 << 64) + LEAST
+
+
+def quotient(a, b):
+    if b == 0:
+        raise Refused("20 Divide")
+    exact = abs(a) // abs(b)
+    return exact if (a < 0) == (b < 0) else -exact
+
+
+NUMBERS = {
+    "+": lambda a, b: a + b,
+    "-": lambda a, b: a - b,
+    "*": lambda a, b: a * b,
+    "/": quotient,
+    "%": lambda a, b: a - b * quotient(a, b),
+}
+TESTS = {
+    "==": lambda a, b: a == b,
+    "!=": lambda a, b: a != b,
+    "<": lambda a, b: a < b,
+    "<=": lambda a, b: a <= b,
+    ">": lambda a, b: a > b,
+    ">=": lambda a, b: a >= b,
+}
+
+
+def number(source, names, depth):
+    """A random expression of int64, or of no kind where it is a literal."""
+    choice = source.random()
+    if depth == 0 or choice < 0.3:
+        if names and source.random() < 0.7:
+            name = source.choice(names)
+            return name, lambda row: row[name]
+        literal = source.choice([0, 1, 1, 2, 2, 3, 3, 7, 7, 100, 100, 3037000500])
+        return f"int64({literal})", lambda row: literal
+    if choice < 0.36:
+        return "int64(NULL)", lambda row: None
+    if choice < 0.45:
+        text, part = number(source, names, depth - 1)
+        return f"- ({text})", lambda row: None if (x := part(row)) is None else wrapped(-x)
+    op = source.choice("+++---****/%")
+    (left, a), (right, b) = number(source, names, depth - 1), number(source, names, depth - 1)
+
+    def value(row):
+        x, y = a(row), b(row)
+        return None if x is None or y is None else wrapped(NUMBERS[op](x, y))
+
+    return f"({left}) {op} ({right})", value
+
+
+def truth(source, names, depth):
+    """A random expression of bool."""
+    choice = source.random()
+    if depth == 0 or choice < 0.5:
+        op = source.choice(list(TESTS))
+        (left, a), (right, b) = number(source, names, 1), number(source, names, 1)
+
+        def compared(row):
+            x, y = a(row), b(row)
+            return None if x is None or y is None else TESTS[op](x, y)
+
+        return f"({left}) {op} ({right})", compared
+    if choice < 0.6:
+        text, part = number(source, names, 1)
+        return f"({text}) IS NULL", lambda row: part(row) is None
+    if choice < 0.7:
+        text, part = truth(source, names, depth - 1)
+        return f"!({text})", lambda row: None if (x := part(row)) is None else not x
+    deciding = source.random() < 0.5
+    (left, a), (right, b) = truth(source, names, depth - 1), truth(source, names, depth - 1)
+
+    def joined(row):
+        x = a(row)
+        if x is deciding:
+            return x
+        y = b(row)
+        if y is deciding:
+            return y
+        return None if x is None or y is None else not deciding
+
+    return f"({left}) {'||' if deciding else '&&'} ({right})", joined
+
+
+class Tables:
+    """Tables by name: their columns, and their rows by rising id."""
+
+    def __init__(self):
+        self.tables, self.next_id = {}, 1
+
+    def table(self, name):
+        if name not in self.tables:
+            raise Refused(f"1 NoTable {name}")
+        return self.tables[name]
+
+    def create(self, name, columns):
+        if name in self.tables:
+            raise Refused(f"4 Exists {name}")
+        self.tables[name] = (columns, {})
+
+    def insert(self, name, rows):
+        columns, held = self.table(name)
+        if any(len(row) != len(columns) for row in rows):
+            raise Refused("6 Count")
+        for values in [[part({}) for part in row] for row in rows]:
+            held[self.next_id] = values
+            self.next_id += 1
+
+    def change(self, name, sets, where):
+        """An UPDATE, or a DELETE where there are no sets: a row after the other, each judged by itself."""
+        columns, held = self.table(name)
+        for id, values in list(held.items()):
+            row = dict(zip(columns, values)) | {"id()": id}
+            if where(row) is not True:
+                continue
+            if sets is None:
+                del held[id]
+            else:
+                new = [(columns.index(column), part(row)) for column, part in sets]
+                held[id] = [dict(new).get(at, value) for at, value in enumerate(values)]
+
+    def truncate(self, name):
+        self.table(name)[1].clear()
+
+    def drop(self, name, quiet):
+        if not (quiet and name not in self.tables):
+            self.table(name)
+            del self.tables[name]
+            if not self.tables:
+                self.next_id = 1
+
+    def shown(self, name):
+        """The lines of SELECT id(), and all columns."""
+        columns, held = self.table(name)
+        return [", ".join("<nil>" if x is None else str(x) for x in [id, *values]) for id, values in sorted(held.items())]
+
+
+class Script:
+    """A random script, what it shows, and the line that it warns."""
+
+    def __init__(self, seed):
+        self.source = random.Random(seed)
+        self.tables, self.texts, self.shown, self.warned = Tables(), [], [], ""
+        for count in range(1, self.source.randint(5, 30) + 1):
+            text, act = self.statement()
+            self.texts.append(text)
+            try:
+                self.shown += act() or []
+            except Refused as refusal:
+                self.warned = f"ql: statement {count}: {refusal}"
+                break
+
+    def name(self):
+        """A table that is there, or seldom another one."""
+        there = list(self.tables.tables)
+        if there and self.source.random() < 0.99:
+            return self.source.choice(there)
+        return self.source.choice("tuvw")
+
+    def where(self, columns):
+        if self.source.random() < 0.15:
+            return "", lambda row: True
+        text, part = truth(self.source, [*columns, "id()"], 2)
+        return f" WHERE {text}", part
+
+    def statement(self):
+        source, tables = self.source, self.tables
+        name = self.name()
+        columns = tables.tables[name][0] if name in tables.tables else ["a"]
+        choice = source.random()
+        if not tables.tables or choice < 0.08:
+            free = [each for each in "tuvw" if each not in tables.tables]
+            name = source.choice(free) if free and source.random() < 0.9 else source.choice("tuvw")
+            made = ["a", "b", "c"][: source.randint(1, 3)]
+            return f"CREATE TABLE {name} ({', '.join(f'{c} int64' for c in made)})", lambda: tables.create(name, made)
+        if choice < 0.4:
+            count = len(columns) if source.random() < 0.99 else len(columns) + 1
+            rows = [[number(source, [], 1) for _ in range(count)] for _ in range(source.randint(1, 5))]
+            text = ", ".join("(" + ", ".join(text for text, _ in row) + ")" for row in rows)
+            return f"INSERT INTO {name} VALUES {text}", lambda: tables.insert(name, [[part for _, part in row] for row in rows])
+        if choice < 0.6:
+            some = source.sample(columns, source.randint(1, len(columns)))
+            sets = [(column, *number(source, [*columns, "id()"], 2)) for column in some]
+            where, test = self.where(columns)
+            text = ", ".join(f"{column} = {text}" for column, text, _ in sets)
+            return f"UPDATE {name} SET {text}{where}", lambda: tables.change(name, [(c, part) for c, _, part in sets], test)
+        if choice < 0.75:
+            where, test = self.where(columns)
+            return f"DELETE FROM {name}{where}", lambda: tables.change(name, None, test)
+        if choice < 0.79:
+            return f"TRUNCATE TABLE {name}", lambda: tables.truncate(name)
+        if choice < 0.84:
+            quiet = source.random() < 0.5
+            name = source.choice("tuvw") if quiet else name
+            return f"DROP TABLE {'IF EXISTS ' if quiet else ''}{name}", lambda: tables.drop(name, quiet)
+        return f"SELECT id(), {', '.join(columns)} FROM {name}", lambda: tables.shown(name)
