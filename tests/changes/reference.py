@@ -6,43 +6,21 @@ or raises `Refused`. It is written from docs/LANGUAGE.md and not from the progra
 """
 import random
 
-LEAST, GREATEST = -(1 << 63), (1 << 63) - 1
+from values.reference import COMPARED, EXACT, wrapped
 
 
 class Refused(Exception):
     """A statement is refused: its number, word and name."""
 
 
-def wrapped(number):
-    return (number - LEAST) % (1 << 64) + LEAST
-
-
-def quotient(a, b):
-    if b == 0:
+def arithmetic(op, a, b):
+    if op in "/%" and b == 0:
         raise Refused("20 Divide")
-    exact = abs(a) // abs(b)
-    return exact if (a < 0) == (b < 0) else -exact
-
-
-NUMBERS = {
-    "+": lambda a, b: a + b,
-    "-": lambda a, b: a - b,
-    "*": lambda a, b: a * b,
-    "/": quotient,
-    "%": lambda a, b: a - b * quotient(a, b),
-}
-TESTS = {
-    "==": lambda a, b: a == b,
-    "!=": lambda a, b: a != b,
-    "<": lambda a, b: a < b,
-    "<=": lambda a, b: a <= b,
-    ">": lambda a, b: a > b,
-    ">=": lambda a, b: a >= b,
-}
+    return wrapped(EXACT[op](a, b), "int64")
 
 
 def number(source, names, depth):
-    """A random expression of int64, or of no kind where it is a literal."""
+    """A random expression of int64."""
     choice = source.random()
     if depth == 0 or choice < 0.3:
         if names and source.random() < 0.7:
@@ -54,13 +32,13 @@ def number(source, names, depth):
         return "int64(NULL)", lambda row: None
     if choice < 0.45:
         text, part = number(source, names, depth - 1)
-        return f"- ({text})", lambda row: None if (x := part(row)) is None else wrapped(-x)
+        return f"- ({text})", lambda row: None if (x := part(row)) is None else wrapped(-x, "int64")
     op = source.choice("+++---****/%")
     (left, a), (right, b) = number(source, names, depth - 1), number(source, names, depth - 1)
 
     def value(row):
         x, y = a(row), b(row)
-        return None if x is None or y is None else wrapped(NUMBERS[op](x, y))
+        return None if x is None or y is None else arithmetic(op, x, y)
 
     return f"({left}) {op} ({right})", value
 
@@ -69,12 +47,12 @@ def truth(source, names, depth):
     """A random expression of bool."""
     choice = source.random()
     if depth == 0 or choice < 0.5:
-        op = source.choice(list(TESTS))
+        op = source.choice(list(COMPARED))
         (left, a), (right, b) = number(source, names, 1), number(source, names, 1)
 
         def compared(row):
             x, y = a(row), b(row)
-            return None if x is None or y is None else TESTS[op](x, y)
+            return None if x is None or y is None else COMPARED[op](x, y)
 
         return f"({left}) {op} ({right})", compared
     if choice < 0.6:

@@ -9,9 +9,9 @@ import pathlib
 import subprocess
 import sys
 
-sys.path.insert(0, str(pathlib.Path(__file__).resolve().parent))
+sys.path.insert(0, str(pathlib.Path(__file__).resolve().parent.parent))
 
-from reference import Script
+from changes.reference import Script
 
 SCRIPTS = 20_000
 SECONDS = 60
