@@ -16,7 +16,7 @@ use ql_value::{LATER, Refusal};
 use std::alloc::Global;
 
 /// A row, and no field.
-pub(crate) fn row_scope(alloc: Global, slots: Slots) -> Scope
+pub(crate) fn row_scope<'a>(alloc: Global, slots: Slots<'a>) -> Scope<'a>
     ensures { result ≡ spec.row_scope slots }
 {
     Scope {
@@ -27,13 +27,13 @@ pub(crate) fn row_scope(alloc: Global, slots: Slots) -> Scope
 }
 
 /// What ORDER BY sees.
-fn key_scope(
+fn key_scope<'a>(
     alloc: Global,
     targets: &[Target],
     hides: bool,
-    scope: Scope,
-    fields: &ResultFields,
-) -> Result<Scope, NoMemory>
+    scope: Scope<'a>,
+    fields: &'a ResultFields,
+) -> Result<Scope<'a>, NoMemory>
     ensures { IfOk result (λ keys. keys ≡ spec.key_scope (kinds_of targets.now) hides scope fields.now) }
 {
     let fields = field_slots(alloc, targets, fields.as_slice())?;
@@ -45,7 +45,7 @@ fn key_scope(
 fn resolve_among(
     alloc: Global,
     group: Group,
-    scope: &Scope,
+    scope: &Scope<'_>,
     expr: &Expr,
 ) -> Result<Typed, CheckFault>
     ensures { Gives (spec.resolve_among (test_of group) scope.now expr.now) result }
@@ -59,7 +59,7 @@ fn resolve_among(
 pub(crate) fn resolve_if(
     alloc: Global,
     group: Group,
-    scope: &Scope,
+    scope: &Scope<'_>,
     expr: &Option<Boxed<Expr>>,
 ) -> Result<Option<Typed>, CheckFault>
     ensures { Gives (spec.resolve_if (test_of group) scope.now expr.now) result }
@@ -71,7 +71,7 @@ pub(crate) fn resolve_if(
 }
 
 /// An expression without aggregate, of any type.
-fn resolve(alloc: Global, scope: &Scope, expr: &Expr) -> Result<Typed, CheckFault>
+fn resolve(alloc: Global, scope: &Scope<'_>, expr: &Expr) -> Result<Typed, CheckFault>
     ensures { Gives (spec.resolve scope.now expr.now) result }
 {
     let checked = check_expr(alloc, expr, scope, false)?;
@@ -79,7 +79,7 @@ fn resolve(alloc: Global, scope: &Scope, expr: &Expr) -> Result<Typed, CheckFaul
 }
 
 /// Expressions without aggregate, of any types.
-fn resolve_each(alloc: Global, scope: &Scope, exprs: &Exprs) -> Result<Typeds, CheckFault>
+fn resolve_each(alloc: Global, scope: &Scope<'_>, exprs: &Exprs) -> Result<Typeds, CheckFault>
     ensures { Gives (spec.resolve_each scope.now exprs.now) result }
 {
     let mut trees = Typeds::new(alloc);
@@ -100,7 +100,11 @@ fn without_join(alloc: Global, join: &Option<Boxed<Join>>) -> Result<(), CheckFa
 }
 
 /// FROM, join, WHERE and GROUP BY.
-fn source_of(alloc: Global, schema: &Schema, select: &Select) -> Result<Source, CheckFault>
+fn source_of<'a>(
+    alloc: Global,
+    schema: &'a Schema,
+    select: &'a Select,
+) -> Result<Source<'a>, CheckFault>
     ensures { Gives (spec.source_of schema.now select.now) result }
 {
     let slots = add_sets(alloc, schema, &select.sets)?;
@@ -116,12 +120,12 @@ fn source_of(alloc: Global, schema: &Schema, select: &Select) -> Result<Source, 
 }
 
 /// ORDER BY, behind the fields.
-fn keys_of(
+fn keys_of<'a>(
     alloc: Global,
     targets: &[Target],
     hides: bool,
-    scope: Scope,
-    fields: &ResultFields,
+    scope: Scope<'a>,
+    fields: &'a ResultFields,
     keys: &Exprs,
 ) -> Result<Typeds, CheckFault>
     ensures { let sees = spec.key_scope (kinds_of targets.now) hides scope fields.now in
@@ -135,7 +139,7 @@ fn keys_of(
 fn output_of(
     alloc: Global,
     targets: &[Target],
-    scope: Scope,
+    scope: Scope<'_>,
     grouped: bool,
     select: &Select,
 ) -> Result<Output, CheckFault>
