@@ -23,6 +23,7 @@ pub mod InsertTypes
 pub mod TablePlans
 pub mod ChangePlans
 pub mod StatementPlans
+pub mod RowLists
 pub mod SelectRows
 pub mod Refused
 pub mod ChangeEffects
