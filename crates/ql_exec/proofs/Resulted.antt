@@ -36,14 +36,14 @@ result_ends filter fields x now left None n c = tt
 result_ends filter fields None now left (Some d) n c = ap (λ (a : Answer (List (List Value))). then_with a (results fields)) c
 result_ends filter fields (Some row) now left (Some d) n c = absurd (n row refl)
 
-refused_first : (filter : Option Typed) (fields : List Typed) (now left after : List (List Value)) (f : ExecFault) → Comes (filtered filter now) (Err {A = Option (List Value)} f) (filtered filter left)
-    → Comes (results_left filter fields now) (Err {A = Option ResultRow} f) (results_left filter fields after)
+refused_first : (filter : Option Typed) (fields : List Typed) (now left after : List (List Value)) (f : ExecFault) → Comes {A = List Value} (filtered filter now) (Err f) (filtered filter left)
+    → Comes {A = ResultRow} (results_left filter fields now) (Err f) (results_left filter fields after)
 refused_first filter fields now left after (fault.Refused r) c = ap (λ (a : Answer (List (List Value))). then_with a (results fields)) c
 refused_first filter fields now left after (fault.Trouble t) c = tt
 
 -- WHERE refuses
 pub filter_stops : (filter : Option Typed) (fields : List Typed) (now left after : Db → List (List Value)) (f : ExecFault) (result : Result (Option ResultRow) ExecFault) (o : Option Db) → IsErrAnd result (λ e. e ≡ f)
-    → IfSome o (λ d. Comes (filtered filter (now d)) (Err {A = Option (List Value)} f) (filtered filter (left d))) → IfSome o (λ d. Comes (results_left filter fields (now d)) result (results_left filter fields (after d)))
+    → IfSome o (λ d. Comes {A = List Value} (filtered filter (now d)) (Err f) (filtered filter (left d))) → IfSome o (λ d. Comes (results_left filter fields (now d)) result (results_left filter fields (after d)))
 filter_stops filter fields now left after f result None i c = tt
 filter_stops filter fields now left after f (Ok x) (Some d) i c = absurd i
 filter_stops filter fields now left after f (Err q) (Some d) i c =
@@ -57,7 +57,7 @@ field_refused fields row (Ok rows) r h v = ap (λ (a : Answer (List Value)). the
 field_refused fields row (Err q) r h v = absurd h
 
 behind_by : (T : Type 0) (fields : List Typed) (row : List Value) (whole left : Answer (List (List Value))) (after : Answer (List ResultRow)) (f : ExecFault) → whole ≡ then_with left (λ more. Ok (row ∷ more)) → Passes {T = T} left (Err f)
-    → Comes (then_with whole (results fields)) (Err {A = Option ResultRow} f) after
+    → Comes {A = ResultRow} (then_with whole (results fields)) (Err f) after
 behind_by T fields row whole left after (fault.Refused r) e p = ap (λ (a : Answer (List (List Value))). then_with a (results fields)) e ∙ later_refused fields row left r p
 behind_by T fields row whole left after (fault.Trouble t) e p = tt
 
@@ -73,14 +73,14 @@ behind_stops T filter fields x row now left after f (Err q) (Some d) p i k e c h
     (behind_by T fields row (filtered filter (now d)) (filtered filter (left d)) (results_left filter fields (after d)) f first (told_back (λ d. Passes {T = T} (filtered filter (left d)) (Err f)) (Some d) p e h))
 
 fields_by : (fields : List Typed) (row : List Value) (whole left : Answer (List (List Value))) (after : Answer (List ResultRow)) (f : ExecFault) → whole ≡ then_with left (λ more. Ok (row ∷ more)) → IsOk left → Answers {A = List Value} (values_of row fields) (Err f)
-    → Comes (then_with whole (results fields)) (Err {A = Option ResultRow} f) after
+    → Comes {A = ResultRow} (then_with whole (results fields)) (Err f) after
 fields_by fields row whole left after (fault.Refused r) e h a = ap (λ (z : Answer (List (List Value))). then_with z (results fields)) e ∙ field_refused fields row left r h a
 fields_by fields row whole left after (fault.Trouble t) e h a = tt
 
 -- a field is refused, and WHERE refuses no row behind
 pub fields_stop : (filter : Option Typed) (fields : List Typed) (x : Option (List Value)) (row seen : List Value) (now left after : Db → List (List Value)) (f : ExecFault) (o p : Option Db)
     → x ≡ Some row → seen ≡ row → p ≡ o → IfSome o (λ d. Comes (filtered filter (now d)) (Ok x) (filtered filter (left d))) → IfSome p (λ d. IsOk (filtered filter (left d))) → Answers {A = List Value} (values_of seen fields) (Err f)
-    → IfSome o (λ d. Comes (results_left filter fields (now d)) (Err {A = Option ResultRow} f) (results_left filter fields (after d)))
+    → IfSome o (λ d. Comes {A = ResultRow} (results_left filter fields (now d)) (Err f) (results_left filter fields (after d)))
 fields_stop filter fields x row seen now left after f None p k s e c h a = tt
 fields_stop filter fields x row seen now left after f (Some d) p k s e c h a =
     let first : filtered filter (now d) ≡ then_with (filtered filter (left d)) (λ more. Ok (row ∷ more)) = subst (λ (z : Option (List Value)). Comes (filtered filter (now d)) (Ok z) (filtered filter (left d))) k c in

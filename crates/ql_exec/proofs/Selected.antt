@@ -46,12 +46,12 @@ text_is : (w : Window) (a : Answer (List ResultRow)) (before now : List ℕ) →
 text_is w (Ok rows) before now e = record { text = shown_lines w (values_in rows); is = refl; grown = sym (same_ok (before ++ shown_lines w (values_in rows)) now e) }
 text_is w (Err r) before now e = absurd (cc)
 
-cut_none : (most : Option ℕ) → at_most most ([] {A = List Value}) ≡ []
+cut_none : (most : Option ℕ) → at_most {A = List Value} most [] ≡ []
 cut_none None = refl
 cut_none (Some zero) = refl
 cut_none (Some (suc n)) = refl
 
-none_shown : (skip : ℕ) (most : Option ℕ) → window (Some skip) most ([] {A = List Value}) ≡ []
+none_shown : (skip : ℕ) (most : Option ℕ) → window {A = List Value} (Some skip) most [] ≡ []
 none_shown zero most = cut_none most
 none_shown (suc n) most = cut_none most
 

@@ -7,17 +7,21 @@ use Rattle.ql_syntax.specs.declared.typed.Typed.{Typed}
 use Rattle.ql_syntax.specs.Answers.{Answer, refused, then_with}
 use Rattle.ql_rel.specs.declared.db.Db.{Db}
 use Rattle.ql_rel.specs.declared.db.Row.{Row}
-use Rattle.ql_rel.specs.declared.select.ResultRow.{ResultRow}
 use Rattle.ql_rel.specs.Databases.{rows_at}
 use Rattle.ql_rel.specs.Rels.{is_after, row_after}
-use Rattle.ql_rel.specs.Rows.{is_meant, values_of}
-use Rattle.ql_rel.specs.SelectRows.{set_row, filtered, results}
+use Rattle.ql_rel.specs.Rows.{is_meant}
+use Rattle.ql_rel.specs.SelectRows.{set_row, filtered}
 use Rattle.ql_rel.specs.WellFormed.{IsWellFormed}
-use Rattle.ql_exec.specs.Answers.{Answers}
-use Rattle.ql_exec.specs.Turns.{rows_if, results_left, Comes, Passes}
+use Rattle.ql_exec.specs.Answers.{Answers, AreTypedAt}
+use Rattle.ql_syntax.specs.declared.typing.Typing.{Typing}
+use Rattle.ql_syntax.specs.Typing.{FitsRow, WellTyped, type_of}
+use Rattle.ql_rel.specs.declared.schema.Schema.{Schema}
+use Rattle.ql_rel.specs.PlanTypes.{AreTyped, IsFilter}
+use Rattle.ql_exec.specs.Turns.{rows_if, types_if, Comes, Passes}
 use Rattle.ql_exec.specs.declared.fault.ExecFault.{ExecFault}
 use Rattle.ql_exec.specs.declared.fault.ExecFault.TheVariants as fault
-use Rattle.ql_exec.proofs.Lined.{rise_at}
+use Rattle.ql_exec.proofs.Lined.{rise_at, typed_each}
+use Rattle.ql_exec.proofs.Assigned.{filter_typed}
 use Rattle.ql_exec.proofs.Scanned.{next_found, none_found}
 use Rattle.ql_exec.specs.Carries.{IsTroubleAlone}
 use Rattle.ql_rel.proofs.Fits.{same_ok}
@@ -101,8 +105,8 @@ row_meant filter x row seen m whole now left (Some d) p k s e g c a n =
     g ∙ ap (filtered filter) first ∙ meant filter row (left d) test
 
 -- where the condition is refused
-refuses : (filter : Option Typed) (row : List Value) (whole now left after : List (List Value)) (f : ExecFault) → filtered filter whole ≡ filtered filter now → now ≡ row ∷ left → Answers (is_meant filter row) (Err {A = Bool} f)
-    → Comes (filtered filter whole) (Err {A = Option (List Value)} f) (filtered filter after)
+refuses : (filter : Option Typed) (row : List Value) (whole now left after : List (List Value)) (f : ExecFault) → filtered filter whole ≡ filtered filter now → now ≡ row ∷ left → Answers {A = Bool} (is_meant filter row) (Err f)
+    → Comes {A = List Value} (filtered filter whole) (Err f) (filtered filter after)
 refuses filter row whole now left after (fault.Refused r) g n a = g ∙ ap (filtered filter) n ∙ judged filter row left r a
 refuses filter row whole now left after (fault.Trouble t) g n a = tt
 
@@ -121,7 +125,7 @@ pub none_meant : (filter : Option Typed) (x : Option (List Value)) (whole now le
     → IfSome o (λ d. filtered filter (whole d) ≡ filtered filter (now d)) → IfSome p (λ d. Comes (Ok (now d)) (Ok x) (Ok (left d))) → IfSome o (λ d. filtered filter (whole d) ≡ Ok [])
 none_meant filter x whole now left None p n e g c = tt
 none_meant filter None whole now left (Some d) p n e g c =
-    g ∙ ap (filtered filter) (same_rows (now d) [] (told_back (λ d. Comes (Ok (now d)) (Ok (None {A = List Value})) (Ok (left d))) (Some d) p e c))
+    g ∙ ap (filtered filter) (same_rows (now d) [] (told_back (λ d. Comes {A = List Value} (Ok (now d)) (Ok None) (Ok (left d))) (Some d) p e c))
 none_meant filter (Some row) whole now left (Some d) p n e g c = absurd (n row refl)
 
 -- what ends an answer ends another one: it is there where that is, and has its refusal
@@ -166,3 +170,19 @@ ends_stop T whole now left f result None p i e g c = tt
 ends_stop T whole now left f (Ok u) (Some d) p i e g c = absurd i
 ends_stop T whole now left f (Err q) (Some d) p i e g c =
     subst (λ (z : ExecFault). Passes {T = T} (whole d) (Err z)) (sym i) (ends_by T (whole d) (now d) (left d) f g (told_back (λ d. Comes (now d) (Err f) (left d)) (Some d) p e c))
+
+pub same_start : {A : Type 0} (a : Db → A) (o : Option Db) → IfSome o (λ d. a d ≡ a d)
+same_start a None = tt
+same_start a (Some d) = refl
+
+-- the condition has a type at the row that came
+pub meant_typed : (x : Option (List Value)) (row seen : List Value) (table now : Option ℕ) (schema held : Schema) (filter : Option Typed) → x ≡ Some row → seen ≡ row → now ≡ table → held ≡ schema
+    → IfSome x (FitsRow (types_if now held)) → IsFilter (types_if table schema) filter → IfSome filter (WellTyped seen)
+meant_typed x row seen table now schema held filter k s t e f h =
+    let fits : FitsRow (types_if now held) row = subst (λ (z : Option (List Value)). IfSome z (FitsRow (types_if now held))) k f in
+    let types : types_if now held ≡ types_if table schema = ap (λ (z : Option ℕ). types_if z held) t ∙ ap (types_if table) e in
+    filter_typed (types_if table schema) seen filter (subst (λ (xs : List Value). FitsRow (types_if table schema) xs) (sym s) (subst (λ (ts : List Typing). FitsRow ts row) types fits)) h
+
+pub fields_typed : (x : Option (List Value)) (row seen : List Value) (types : List Typing) (fields : List Typed) → x ≡ Some row → seen ≡ row → IfSome x (FitsRow types) → AreTyped (type_of types) fields → AreTypedAt seen fields
+fields_typed x row seen types fields k s f h =
+    typed_each types seen fields (subst (λ (xs : List Value). FitsRow types xs) (sym s) (subst (λ (z : Option (List Value)). IfSome z (FitsRow types)) k f)) h
