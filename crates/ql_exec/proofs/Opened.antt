@@ -22,7 +22,7 @@ use Rattle.ql_rel.specs.PlanTypes as types
 use Rattle.ql_rel.specs.Plans.{add_set, add_sets}
 use Rattle.ql_rel.specs.SelectRows.{set_row, set_rows, rows_of_source, from_rows}
 use Rattle.ql_rel.specs.WellFormed.{IsWellFormed}
-use Rattle.ql_exec.specs.declared.from.RowsLeft.{RowsLeft}
+use Rattle.ql_exec.specs.declared.source.RowsLeft.{RowsLeft}
 use Rattle.ql_exec.specs.Turns.{rows_if, types_if, Opens}
 use Rattle.ql_exec.proofs.Lined.{rise_at}
 use Rattle.ql_exec.proofs.Planned.{one_set, Stood}

@@ -49,9 +49,9 @@ pub parts_show : {T : Type 0} (d : Db) (select : Select) (p : Plan) (limit offse
 parts_show d select p limit offset rows w r before now t l f o h a =
     let one : select_lines d select p ≡ text_of (parts d select p) = ap text_of (in_turn d select p t) in
     let two : text_of (parts d select p) ≡ text_of (shown_of limit offset p rows) =
-        ap (λ (x : Answer (Option ℕ)). text_of (then_with x (λ limit. then_with (count_of p.offset) (λ offset. then_with (from_rows d (out-Select select).sets) (shown_of limit offset p))))) l
-        ∙ ap (λ (x : Answer (Option ℕ)). text_of (then_with x (λ offset. then_with (from_rows d (out-Select select).sets) (shown_of limit offset p)))) f
-        ∙ ap (λ (x : Answer (List (List Value))). text_of (then_with x (shown_of limit offset p))) o in
+    ap (λ (x : Answer (Option ℕ)). text_of (then_with x (λ limit. then_with (count_of p.offset) (λ offset. then_with (from_rows d (out-Select select).sets) (shown_of limit offset p))))) l
+    ∙ ap (λ (x : Answer (Option ℕ)). text_of (then_with x (λ offset. then_with (from_rows d (out-Select select).sets) (shown_of limit offset p)))) f
+    ∙ ap (λ (x : Answer (List (List Value))). text_of (then_with x (shown_of limit offset p))) o in
     let three = lines_of_rows w limit offset p (filtered p.filter rows) h in
     subst (λ (x : Answer (List ℕ)). AddsText x r before now) (sym (one ∙ two ∙ three)) a
 
@@ -94,8 +94,8 @@ offset_stops T select p limit f result before now None i t l a = tt
 offset_stops T select p limit f result before now (Some d) i t l a =
     part_stops T (count_of p.offset) (select_lines d select p) f result before now i
     (λ r e. ap text_of (in_turn d select p t)
-        ∙ ap (λ (x : Answer (Option ℕ)). text_of (then_with x (λ limit. then_with (count_of p.offset) (λ offset. then_with (from_rows d (out-Select select).sets) (shown_of limit offset p))))) l
-        ∙ ap (λ (x : Answer (Option ℕ)). text_of (then_with x (λ offset. then_with (from_rows d (out-Select select).sets) (shown_of limit offset p)))) e) a
+    ∙ ap (λ (x : Answer (Option ℕ)). text_of (then_with x (λ limit. then_with (count_of p.offset) (λ offset. then_with (from_rows d (out-Select select).sets) (shown_of limit offset p))))) l
+    ∙ ap (λ (x : Answer (Option ℕ)). text_of (then_with x (λ offset. then_with (from_rows d (out-Select select).sets) (shown_of limit offset p)))) e) a
 
 -- groups are not built yet
 grouped_by : (w : Window) (p : Plan) (meant : Answer (List (List Value))) → p.grouped ≡ true → IsOk meant → then_with meant (λ xs. then_with (results_of p xs) (result_lines w)) ≡ refused LATER

@@ -12,7 +12,7 @@ use Rattle.ql_rel.specs.declared.select.ResultRow.{ResultRow}
 use Rattle.ql_rel.specs.Databases.{columns_at, rows_at}
 use Rattle.ql_rel.specs.Rels.{is_after}
 use Rattle.ql_rel.specs.SelectRows.{set_row, filtered, results}
-use Rattle.ql_exec.specs.declared.from.RowsLeft.{RowsLeft}
+use Rattle.ql_exec.specs.declared.source.RowsLeft.{RowsLeft}
 use Rattle.ql_exec.specs.declared.fault.ExecFault.{ExecFault}
 use Rattle.ql_exec.specs.declared.fault.ExecFault.TheVariants as fault
 use Rattle.ql_exec.specs.Scans.{table_types}

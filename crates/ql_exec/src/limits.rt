@@ -19,7 +19,7 @@ use ql_value::{NEGATIVE_COUNT, Value};
 use std::alloc::Global;
 
 /// Which of the rows to come are shown.
-#[derive(Debug)]
+#[derive(Debug, Drop)]
 pub struct Window {
     /// How many are not shown first.
     pub skip: u128,

@@ -16,9 +16,9 @@ ghost use Rattle.ql_exec.specs.Windows.{shown_lines, result_lines, select_lines}
 
 use crate::ExecFault;
 use crate::fault::refusal;
-use crate::from::{RowsLeft, next_result, pass_rows};
 use crate::insert::table_named;
 use crate::limits::{Window, count_of, show_row, window};
+use crate::source::{RowsLeft, next_result, pass_rows};
 use crate::text::heading;
 use ql_edge::Bytes;
 use ql_rel::{Plan, Rel};

@@ -34,7 +34,11 @@ pub(crate) fn value_of(alloc: Global, expr: &Typed, row: &[Value]) -> Result<Val
 }
 
 /// Whether WHERE means a row.
-pub(crate) fn is_meant(alloc: Global, filter: &Option<Typed>, row: &[Value]) -> Result<bool, ExecFault>
+pub(crate) fn is_meant(
+    alloc: Global,
+    filter: &Option<Typed>,
+    row: &[Value],
+) -> Result<bool, ExecFault>
     requires { IfSome filter.now (WellTyped row.now) }
     ensures { Answers (spec.is_meant filter.now row.now) result }
 {

@@ -12,12 +12,12 @@ use crate::ExecFault;
 use crate::query::{next_row, set_row};
 use crate::values::{is_meant, values_of};
 use ql_eval::Typed;
-use ql_rel::{Plan, Rel, ResultRow};
+use ql_rel::{Plan, Rel, ResultRow, Row};
 use ql_value::Values;
 use std::alloc::Global;
 
 /// What is left of the rows of a FROM.
-#[derive(Debug)]
+#[derive(Debug, Drop)]
 pub struct RowsLeft {
     /// The place of the table; without one there is one row, without values.
     pub table: Option<u32>,
@@ -58,8 +58,9 @@ fn next_source<R: Rel>(
     let Some(row) = next_row(alloc, rel, table, left.after)? else {
         return Ok(None);
     };
-    left.after = row.id;
-    Ok(Some(set_row(alloc, row.id, row.values)?))
+    let Row { id, values } = row;
+    left.after = id;
+    Ok(Some(set_row(alloc, id, values)?))
 }
 
 /// The next row of a FROM that WHERE means.

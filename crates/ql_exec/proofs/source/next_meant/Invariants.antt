@@ -2,7 +2,7 @@ use Rattle.std.proofs.Common.{◌≡◌, ◌^◌, ◌-◌, ◌≤◌, IfSome}
 use Rattle.ql_rel.specs.SelectRows.{filtered}
 use Rattle.ql_exec.specs.Carries.{Leaves}
 use Rattle.ql_exec.specs.Turns.{rows_of}
-use Rattle.ql_exec.proofs.from.next_meant.Given as goal
+use Rattle.ql_exec.proofs.source.next_meant.Given as goal
 
 -- WHERE means none of the rows that were given
 abbrev pub invariant-rows : goal.invariant-rows

@@ -3,7 +3,7 @@ use Rattle.ql_rel.specs.SelectRows.{filtered}
 use Rattle.ql_exec.specs.Carries.{Leaves}
 use Rattle.ql_exec.specs.Turns.{rows_of}
 use Rattle.ql_exec.proofs.Turned.{Ends}
-use Rattle.ql_exec.proofs.from.pass_rows.Given as goal
+use Rattle.ql_exec.proofs.source.pass_rows.Given as goal
 
 -- what comes of the rows that are left comes of all
 abbrev pub invariant-rows : goal.invariant-rows

@@ -1,7 +1,7 @@
 -- All rows that are left are judged, up to the first that is refused.
 use Rattle.std.proofs.Common.{refl, ◌∙◌, arith}
 use Rattle.ql_exec.proofs.Turned.{ends_start, ends_next, ends_last, ends_stop}
-use Rattle.ql_exec.proofs.from.pass_rows.Goals as goal
+use Rattle.ql_exec.proofs.source.pass_rows.Goals as goal
 
 pub rows-init : goal.rows-init
 rows-init g c = record {

@@ -2,7 +2,7 @@
 use Rattle.std.proofs.Common.{refl, ◌∙◌, arith}
 use Rattle.ql_exec.specs.Turns.{rows_of}
 use Rattle.ql_exec.proofs.Turned.{same_start, meant_typed, rows_pass, row_meant, row_refused, none_meant, rows_trouble}
-use Rattle.ql_exec.proofs.from.next_meant.Goals as goal
+use Rattle.ql_exec.proofs.source.next_meant.Goals as goal
 
 pub rows-init : goal.rows-init
 rows-init g c = record {
