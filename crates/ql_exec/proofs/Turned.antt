@@ -11,7 +11,10 @@ use Rattle.ql_rel.specs.Databases.{rows_at}
 use Rattle.ql_rel.specs.Rels.{is_after, row_after}
 use Rattle.ql_rel.specs.Rows.{is_meant}
 use Rattle.ql_rel.specs.SelectRows.{set_row, filtered}
-use Rattle.ql_rel.specs.WellFormed.{IsWellFormed}
+use Rattle.ql_rel.specs.Limits.{last_id}
+use Rattle.ql_rel.specs.WellFormed.{Fits, IsWellFormed}
+use Rattle.ql_syntax.specs.declared.statement.ColumnDef.{ColumnDef}
+use Rattle.ql_exec.specs.Scans.{table_types}
 use Rattle.ql_exec.specs.Answers.{Answers, AreTypedAt}
 use Rattle.ql_syntax.specs.declared.typing.Typing.{Typing}
 use Rattle.ql_syntax.specs.Typing.{FitsRow, WellTyped, type_of}
@@ -21,7 +24,7 @@ use Rattle.ql_exec.specs.Turns.{rows_if, types_if, Comes, Passes}
 use Rattle.ql_exec.specs.declared.fault.ExecFault.{ExecFault}
 use Rattle.ql_exec.specs.declared.fault.ExecFault.TheVariants as fault
 use Rattle.ql_exec.proofs.Lined.{rise_at, typed_each}
-use Rattle.ql_exec.proofs.Assigned.{filter_typed}
+use Rattle.ql_exec.proofs.Assigned.{filter_typed, row_fits_types}
 use Rattle.ql_exec.proofs.Scanned.{next_found, none_found}
 use Rattle.ql_exec.specs.Carries.{IsTroubleAlone}
 use Rattle.ql_rel.proofs.Fits.{same_ok}
@@ -33,25 +36,33 @@ row_comes table after r x row None k e w h = tt
 row_comes table after r x row (Some d) k e w h =
     ap Ok (ap (map set_row) (next_found after 1 (rows_at table d) r (rise_at d table d.tables w.rows) (sym h ∙ k)) ∙ ap (λ (z : List Value). z ∷ rows_if (Some table) r.id d) (sym e))
 
-none_there : (x : Option Row) → ((r : Row) → x ≡ Some r → ⊥) → x ≡ None
-none_there None h = refl
-none_there (Some r) h = absurd (h r refl)
-
-pub none_comes : (table after : ℕ) (x : Option Row) (o : Option Db) → ((r : Row) → x ≡ Some r → ⊥) → IfSome o (λ d. x ≡ row_after table after d)
+pub none_comes : (table after : ℕ) (x : Option Row) (o : Option Db) → x ≡ None → IfSome o (λ d. x ≡ row_after table after d)
     → IfSome o (λ d. ◌≡◌ {A = Answer (List (List Value))} (Ok (rows_if (Some table) after d)) (Ok []))
 none_comes table after x None n h = tt
-none_comes table after x (Some d) n h = ap Ok (ap (map set_row) (none_found after (rows_at table d) (sym h ∙ none_there x n)))
+none_comes table after x (Some d) n h = ap Ok (ap (map set_row) (none_found after (rows_at table d) (sym h ∙ n)))
+
+-- the row that came has the types of its table
+pub row_types : (columns : List ColumnDef) (x : Option Row) (r : Row) (row : List Value) → x ≡ Some r → row ≡ set_row r → IfSome x (λ r. r.id ≤ last_id) → IfSome x (λ r. Fits columns r.values) → FitsRow (table_types columns) row
+row_types columns x r row k e small f =
+    let low : r.id ≤ last_id = subst (λ (z : Option Row). IfSome z (λ r. r.id ≤ last_id)) k small in
+    let fits : Fits columns r.values = subst (λ (z : Option Row). IfSome z (λ r. Fits columns r.values)) k f in
+    subst (λ (z : List Value). FitsRow (table_types columns) z) (sym e) (row_fits_types columns r low fits)
+
+pub row_over : (after : ℕ) (x : Option Row) (r : Row) → x ≡ Some r → IfSome x (λ r. after < r.id) → after < r.id
+row_over after x r k h = subst (λ (z : Option Row). IfSome z (λ r. after < r.id)) k h
 
 -- the one row without values, and none behind it
-pub sole_comes : (after : ℕ) (o : Option Db) → after ≤ 0 → IfSome o (λ d. ◌≡◌ {A = Answer (List (List Value))} (Ok (rows_if None after d)) (Ok ([] ∷ [])))
-sole_comes after None h = tt
-sole_comes zero (Some d) h = refl
-sole_comes (suc n) (Some d) h = absurd (omega (arith, h))
+pub sole_comes : (after : ℕ) (d : Db) → after ≤ 0 → ◌≡◌ {A = Answer (List (List Value))} (Ok (rows_if None after d)) (Ok ([] ∷ []))
+sole_comes zero d h = refl
+sole_comes (suc n) d h = absurd (omega (arith, h))
 
-pub sole_over : (after : ℕ) (o : Option Db) → 0 < after → IfSome o (λ d. ◌≡◌ {A = Answer (List (List Value))} (Ok (rows_if None after d)) (Ok []))
-sole_over after None h = tt
-sole_over zero (Some d) h = absurd (omega (arith, h))
-sole_over (suc n) (Some d) h = refl
+pub sole_over : (after : ℕ) (d : Db) → 0 < after → ◌≡◌ {A = Answer (List (List Value))} (Ok (rows_if None after d)) (Ok [])
+sole_over zero d h = absurd (omega (arith, h))
+sole_over (suc n) d h = refl
+
+-- an arm for the table that is named
+pub at_table : {A : Type 0} (P : Option ℕ → A → Type 0) (table x : Option ℕ) (a : A) → table ≡ x → P x a → P table a
+at_table P table x a e h = subst (λ (z : Option ℕ). P z a) (sym e) h
 
 -- what an answer says of what comes is said of the database that was told before it
 pub told_back : (P : Db → Type 0) (o p : Option Db) → p ≡ o → IfSome p P → IfSome o P

@@ -1,12 +1,15 @@
 //! The rows of a FROM, gone over one by one.
 
-ghost use Rattle.std.specs.Prelude.{◌≡◌, ℕ, ◌<◌, ◌≤◌, IsTrue, Ok, IfSome, IfOk};
+ghost use Rattle.std.specs.Prelude.{◌≡◌, ℕ, ◌<◌, IsTrue, [], length, Some, None, Ok, IfSome, IfOk};
 ghost use Rattle.ql_syntax.specs.Typing.{FitsRow, type_of};
+ghost use Rattle.ql_rel.specs.declared.db.Db.{Db};
+ghost use Rattle.ql_rel.specs.Databases.{columns_at};
 ghost use Rattle.ql_rel.specs.PlanTypes.{AreTyped, IsFilter};
 ghost use Rattle.ql_rel.specs.SelectRows as spec;
 ghost use Rattle.ql_rel.specs.WellFormed.{IsWellFormed};
 ghost use Rattle.ql_exec.specs.Carries.{IsCausedExec, IsTroubleAlone, Leaves};
-ghost use Rattle.ql_exec.specs.Turns.{rows_of, types_if, IsThere, results_left, Comes, Passes};
+ghost use Rattle.ql_exec.specs.Scans.{table_types};
+ghost use Rattle.ql_exec.specs.Turns.{rows_if, rows_of, types_if, IsThere, results_left, Comes, Passes};
 
 use crate::ExecFault;
 use crate::query::{next_row, set_row};
@@ -23,6 +26,53 @@ pub struct RowsLeft {
     pub table: Option<u32>,
     /// The id of the row that was given last, 0 before the first.
     pub after: u64,
+}
+
+/// The one row without values, if it is not given yet.
+fn next_sole(alloc: Global, after: &mut u64) -> Option<Values>
+    ensures row { (d : Db) → Comes (Ok (rows_if None after.old d)) (Ok result)
+        (Ok (rows_if None after.new d)) }
+    ensures fits { IfSome result (FitsRow []) }
+    ensures over { IfSome result (λ _. after.old < after.new) }
+{
+    if *after > 0 {
+        return None;
+    }
+    *after = 1;
+    Some(Values::new(alloc))
+}
+
+/// The next row of a table, as expressions see it.
+fn next_of_table<R: Rel>(
+    alloc: Global,
+    rel: &mut R,
+    table: u32,
+    after: &mut u64,
+) -> Result<Option<Values>, ExecFault>
+    requires ready { IsTrue (R.is_ready rel.old) }
+    requires table { table < length (R.schema rel.old).tables }
+    requires formed { IfSome (R.db rel.old) IsWellFormed }
+    ensures row { IfSome (R.db rel.old) (λ d. Comes (Ok (rows_if (Some table) after.old d)) result
+        (Ok (rows_if (Some table) after.new d))) }
+    ensures fits { IfOk result (λ row. IfSome row (FitsRow (table_types (columns_at table
+        (R.schema rel.old))))) }
+    ensures trouble { IsTroubleAlone result }
+    ensures over { IfOk result (λ row. IfSome row (λ _. after.old < after.new)) }
+    ensures db { R.db rel.new ≡ R.db rel.old }
+    ensures schema { R.schema rel.new ≡ R.schema rel.old }
+    ensures ready { R.is_ready rel.new ≡ R.is_ready rel.old }
+    ensures leaves { Leaves R.saved R.limit R.told R.left R.fixed rel.old rel.new }
+    ensures cause { IsCausedExec (R.limit rel.old) (R.db rel.old) result (R.faults rel.old)
+        (R.faults rel.new) }
+{
+    match next_row(alloc, rel, table, *after)? {
+        None => Ok(None),
+        Some(row) => {
+            let Row { id, values } = row;
+            *after = id;
+            Ok(Some(set_row(alloc, id, values)?))
+        }
+    }
 }
 
 /// The next row of a FROM, as expressions see it.
@@ -48,19 +98,10 @@ fn next_source<R: Rel>(
     ensures cause { IsCausedExec (R.limit rel.old) (R.db rel.old) result (R.faults rel.old)
         (R.faults rel.new) }
 {
-    let Some(table) = left.table else {
-        if left.after > 0 {
-            return Ok(None);
-        }
-        left.after = 1;
-        return Ok(Some(Values::new(alloc)));
-    };
-    let Some(row) = next_row(alloc, rel, table, left.after)? else {
-        return Ok(None);
-    };
-    let Row { id, values } = row;
-    left.after = id;
-    Ok(Some(set_row(alloc, id, values)?))
+    match left.table {
+        None => Ok(next_sole(alloc, &mut left.after)),
+        Some(table) => next_of_table(alloc, rel, table, &mut left.after),
+    }
 }
 
 /// The next row of a FROM that WHERE means.
