@@ -15,6 +15,7 @@ use Rattle.ql_rel.specs.ChangeEffects.{changes}
 use Rattle.ql_rel.specs.ChangePlans.{update_plan}
 use Rattle.ql_rel.specs.Changes.{table_created}
 use Rattle.ql_rel.specs.Databases.{schema_of, columns_at}
+use Rattle.ql_rel.specs.InsertEffects.{new_rows, rows_added, inserts}
 use Rattle.ql_rel.specs.InsertPlans.{insert_plan}
 use Rattle.ql_rel.specs.FormLaws.{FormLaws}
 use Rattle.ql_rel.specs.Lawful.{IsLawful}
@@ -23,13 +24,13 @@ use Rattle.ql_rel.specs.NewNames.{place_named}
 use Rattle.ql_rel.specs.Refusals.{refused_if}
 use Rattle.ql_rel.specs.SelectRows.{select_text}
 use Rattle.ql_rel.specs.Refused.{unless}
-use Rattle.ql_rel.specs.StatementEffects.{table_added, rows_added, rows_values, inserts, drops, empties, silent, carried, statement_effect}
+use Rattle.ql_rel.specs.StatementEffects.{table_added, drops, empties, silent, carried, statement_effect}
 use Rattle.ql_rel.specs.StatementPlans.{statement_plan}
 use Rattle.ql_rel.specs.TablePlans.{is_idle, drop_plan}
 use Rattle.ql_syntax.specs.ReadsBack.{IsReadBack}
 use Rattle.ql_rel.proofs.CreateLemmas.{has_plan}
 use Rattle.ql_rel.proofs.Fits.{then_ok, same_ok}
-use Rattle.ql_exec.proofs.Fitted.{rows_fit}
+use Rattle.ql_exec.proofs.NewRows.{rows_fit}
 use Rattle.ql_exec.proofs.LawfulRows.{rows_lawful}
 use Rattle.ql_exec.proofs.LawfulChanges.{dropped_lawful, truncated_lawful, removed_lawful, updated_lawful}
 use Rattle.ql_exec.proofs.LawfulTables.{create_lawful}
@@ -56,13 +57,14 @@ create_keeps laws name columns p db after text l r e c =
     let done = made_if (is_past_table t (schema_of db)) (table_created t db) after (silent_is (table_added t db) text after c) in
     subst IsLawful done.1 (create_lawful laws t db l (has_plan t (schema_of db) p e) (reads_itself (schema_of db) name columns p e r) done.0)
 
-insert_keeps : (laws : FormLaws) (name : List ℕ) (exprs : List (List Expr)) (p : Plan) (db after : Db) (text : List ℕ) → IsLawful db → insert_plan (schema_of db) name [] (source.Rows exprs) ≡ Ok p
-    → then_with (inserts name p.rows db) silent ≡ Ok (text, after) → IsLawful after
-insert_keeps laws name exprs p db after text l e c =
-    let says = insert_says (schema_of db) name exprs p e in
+insert_keeps : (laws : FormLaws) (name : List ℕ) (names : List (List ℕ)) (exprs : List (List Expr)) (p : Plan) (db after : Db) (text : List ℕ) → IsLawful db → insert_plan (schema_of db) name names (source.Rows exprs) ≡ Ok p
+    → then_with (inserts name p.targets p.rows db) silent ≡ Ok (text, after) → IsLawful after
+insert_keeps laws name names exprs p db after text l e c =
+    let says = insert_says (schema_of db) name names exprs p e in
     let place = place_named name (schema_of db).tables in
-    let done = then_ok (rows_values p.rows) (λ values. rows_added place values db) after (silent_is (inserts name p.rows db) text after c) in
-    rows_lawful laws place done.0 db after l says.takes (rows_fit (columns_at place (schema_of db)) p.rows done.0 says.typed done.1) done.2
+    let columns = columns_at place (schema_of db) in
+    let done = then_ok (new_rows p.targets columns p.rows) (λ values. rows_added place values db) after (silent_is (inserts name p.targets p.rows db) text after c) in
+    rows_lawful laws place done.0 db after l says.takes (rows_fit columns p.targets p.rows done.0 says.typed done.1) done.2
 
 drop_keeps : (laws : FormLaws) (quiet : Bool) (name : List ℕ) (p : Plan) (db after : Db) (text : List ℕ) → IsLawful db → drop_plan (schema_of db) quiet name ≡ Ok p → silent (drops quiet name db) ≡ Ok (text, after) → IsLawful after
 drop_keeps laws quiet name p db after text l e c =
@@ -86,7 +88,7 @@ carried_lawful : (laws : FormLaws) (with_names : Bool) (statement : Statement) (
 carried_lawful laws with_names (s.Query select) p db after text l r e c = query_keeps (select_text with_names db select p) db after text l c
 carried_lawful laws with_names (s.CreateTable false name columns) p db after text l r e c = create_keeps laws name columns p db after text l r e c
 carried_lawful laws with_names (s.DropTable quiet name) p db after text l r e c = drop_keeps laws quiet name p db after text l e c
-carried_lawful laws with_names (s.Insert name [] (source.Rows exprs)) p db after text l r e c = insert_keeps laws name exprs p db after text l e c
+carried_lawful laws with_names (s.Insert name names (source.Rows exprs)) p db after text l r e c = insert_keeps laws name names exprs p db after text l e c
 carried_lawful laws with_names (s.Update name sets filter) p db after text l r e c = update_keeps name sets filter p db after text l e c
 carried_lawful laws with_names (s.Delete name filter) p db after text l r e c =
     removed_lawful (place_named name (schema_of db).tables) p db after l (silent_is (changes true name p db) text after c)

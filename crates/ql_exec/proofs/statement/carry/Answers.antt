@@ -1,6 +1,6 @@
 -- Each part is given what it asks for, and does what the statement does.
 use Rattle.std.proofs.Common.{length, sym, ◌∙◌}
-use Rattle.ql_exec.proofs.Carried.{query_planned, loud, quiet_does, create_level, create_planned, create_read, insert_level, insert_planned, query_does, create_does, is_other, others_do}
+use Rattle.ql_exec.proofs.Carried.{query_planned, loud, quiet_does, create_level, create_planned, create_read, insert_level, insert_planned, insert_does, selected_later, query_does, create_does, is_other, others_do}
 use Rattle.ql_exec.proofs.Tabled.{drop_level, truncate_level, drop_planned, update_planned, delete_planned, truncate_planned, drop_does, truncate_does}
 use Rattle.ql_exec.proofs.statement.carry.Goals as goal
 
@@ -38,13 +38,13 @@ insert_rows-requires-clause-level g c =
 
 pub insert_rows-requires-clause-table : goal.insert_rows-requires-clause-table
 insert_rows-requires-clause-table g c =
-    (insert_planned (g.R.Rel.schema c.args.rel.now) c.args.statement.now c.in-Insert.table c.in-Insert.columns c.in-Insert.source c.get-in-Insert.result.now c.args.plan.now
-    c.in-Insert.is c.get-in-Insert.ensures (sym c.are_whole.ensures ∙ c.if-not-are_whole.false) c.requires.plan).there
+    (insert_planned (g.R.Rel.schema c.args.rel.now) c.args.statement.now c.in-Insert.table c.in-Insert.columns c.in-Insert.source c.get-in-Insert.result.now _ c.args.plan.now
+    c.in-Insert.is c.get-in-Insert.ensures c.in-Rows.is c.requires.plan).there
 
 pub insert_rows-requires-clause-typed : goal.insert_rows-requires-clause-typed
 insert_rows-requires-clause-typed g c =
-    (insert_planned (g.R.Rel.schema c.args.rel.now) c.args.statement.now c.in-Insert.table c.in-Insert.columns c.in-Insert.source c.get-in-Insert.result.now c.args.plan.now
-    c.in-Insert.is c.get-in-Insert.ensures (sym c.are_whole.ensures ∙ c.if-not-are_whole.false) c.requires.plan).typed
+    (insert_planned (g.R.Rel.schema c.args.rel.now) c.args.statement.now c.in-Insert.table c.in-Insert.columns c.in-Insert.source c.get-in-Insert.result.now _ c.args.plan.now
+    c.in-Insert.is c.get-in-Insert.ensures c.in-Rows.is c.requires.plan).typed
 
 pub drop_table-requires-clause-level : goal.drop_table-requires-clause-level
 drop_table-requires-clause-level g c = drop_level c.args.statement.now c.in-DropTable.quiet c.in-DropTable.table (length (g.R.Rel.saved c.args.rel.now)) c.in-DropTable.is c.requires.level
