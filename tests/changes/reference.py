@@ -87,10 +87,11 @@ class Tables:
             raise Refused(f"1 NoTable {name}")
         return self.tables[name]
 
-    def create(self, name, columns):
-        if name in self.tables:
+    def create(self, name, columns, quiet):
+        if name not in self.tables:
+            self.tables[name] = (columns, {})
+        elif not quiet:
             raise Refused(f"4 Exists {name}")
-        self.tables[name] = (columns, {})
 
     def insert(self, name, named, rows):
         """Rows for the columns that are named, or for all: every value is known before a row goes in."""
@@ -178,9 +179,11 @@ class Script:
         choice = source.random()
         if not tables.tables or choice < 0.08:
             free = [each for each in "tuvw" if each not in tables.tables]
-            name = source.choice(free) if free and source.random() < 0.9 else source.choice("tuvw")
+            quiet = source.random() < 0.4
+            name = source.choice(free) if free and not quiet and source.random() < 0.9 else source.choice("tuvw")
             made = ["a", "b", "c"][: source.randint(1, 3)]
-            return f"CREATE TABLE {name} ({', '.join(f'{c} int64' for c in made)})", lambda: tables.create(name, made)
+            text = f"{'IF NOT EXISTS ' if quiet else ''}{name} ({', '.join(f'{c} int64' for c in made)})"
+            return f"CREATE TABLE {text}", lambda: tables.create(name, made, quiet)
         if choice < 0.4:
             named = self.named(columns)
             count = len(named or columns) + (source.random() < 0.01)

@@ -50,12 +50,7 @@ pub fn carry<R: Rel>(
             quiet,
             table,
             columns,
-        } => {
-            if *quiet {
-                return Err(refusal(alloc, LATER));
-            }
-            create_table(alloc, rel, table, columns)
-        }
+        } => create_table(alloc, rel, *quiet, table, columns),
         Statement::DropTable { quiet, table } => drop_table(alloc, rel, *quiet, table),
         Statement::Insert { table, source, .. } => match source.get() {
             RowSource::Rows(_) => insert_rows(alloc, rel, table, plan),

@@ -23,6 +23,10 @@ use Rattle.ql_rel.specs.TablePlans.{is_idle}
 abbrev pub table_added : TableSchema → Db → Answer Db
 table_added table db = unless (table_refusal table (schema_of db)) (table_created table db)
 
+-- a table is added, unless it is there and the statement is quiet
+abbrev pub creates : Bool → TableSchema → Db → Answer Db
+creates quiet table db = if is_idle (schema_of db) (s.CreateTable quiet table.name table.columns) then Ok db else table_added table db
+
 -- the table with a name goes, if it is there
 abbrev pub drops : Bool → List ℕ → Db → Db
 drops quiet name db = if is_idle (schema_of db) (s.DropTable quiet name) then db else table_dropped (place_named name (schema_of db).tables) db
@@ -38,7 +42,7 @@ silent db = Ok ([], db)
 -- what a statement with a plan does: the text that it shows and the database after it, or its refusal; those that are not named are not built yet
 abbrev pub carried : Bool → Statement → Plan → Db → Answer (List ℕ × Db)
 carried with_names (s.Query select) p db = then_with (select_text with_names db select p) (λ text. Ok (text, db))
-carried with_names (s.CreateTable false name columns) p db = then_with (table_added (record { name = name; columns = columns }) db) silent
+carried with_names (s.CreateTable quiet name columns) p db = then_with (creates quiet (record { name = name; columns = columns }) db) silent
 carried with_names (s.DropTable quiet name) p db = silent (drops quiet name db)
 carried with_names (s.Insert name names (source.Rows rows)) p db = then_with (inserts name p.targets p.rows db) silent
 carried with_names (s.Update name sets filter) p db = then_with (changes false name p db) silent
