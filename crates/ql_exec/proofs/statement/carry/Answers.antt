@@ -42,6 +42,11 @@ insert_rows-requires-clause-typed g c =
     (insert_planned (g.R.Rel.schema c.args.rel.now) c.args.statement.now c.in-Insert.table c.in-Insert.columns c.in-Insert.source c.get-in-Insert.result.now _ c.args.plan.now
     c.in-Insert.is c.get-in-Insert.ensures c.in-Rows.is c.requires.plan).typed
 
+pub returns-in-Rows-clause-done : goal.returns-in-Rows-clause-done
+returns-in-Rows-clause-done g c =
+    insert_does c.args.with_names c.args.statement.now c.in-Insert.table c.in-Insert.columns c.in-Insert.source c.get-in-Insert.result.now _ c.args.plan.now _ _ _ _
+    c.in-Insert.is c.get-in-Insert.ensures c.in-Rows.is c.insert_rows.ensures.done
+
 pub drop_table-requires-clause-level : goal.drop_table-requires-clause-level
 drop_table-requires-clause-level g c = drop_level c.args.statement.now c.in-DropTable.quiet c.in-DropTable.table (length (g.R.Rel.saved c.args.rel.now)) c.in-DropTable.is c.requires.level
 
