@@ -172,6 +172,11 @@ pub fn insert_rows<R: Rel>(
         (R.faults rel.new) }
 {
     let table = table_named(rel, name);
-    let rows = new_rows(alloc, columns_of(rel, table), plan.targets.as_slice(), &plan.rows)?;
+    let rows = new_rows(
+        alloc,
+        columns_of(rel, table),
+        plan.targets.as_slice(),
+        &plan.rows,
+    )?;
     add_rows(alloc, rel, table, &rows)
 }
