@@ -204,7 +204,8 @@ fn answer_command<M: Machine>(
     ensures gives { (answer : Answer) → Means options command (M.left machine.old) answer
         → Gives answer result (M.told machine.old) (M.told machine.new) }
     ensures means { TellsScript command (M.left machine.old) → IsFinal result
-        → (answer : Answer) × Means options command (M.left machine.old) answer × (result ≡ answer.status) }
+        → (answer : Answer) × Means options command (M.left machine.old) answer
+        × (result ≡ answer.status) }
     ensures usage { (word : ℕ) → command ≡ asked.Usage word → result ≡ ended.Usage word }
     ensures usage_only { (word : ℕ) → result ≡ ended.Usage word → command ≡ asked.Usage word }
     ensures silent { IsRefusedWhole result → M.told machine.new ≡ M.told machine.old }
@@ -223,13 +224,14 @@ fn answer_command<M: Machine>(
 
 /// Reads the words, and does what they ask for.
 fn answer<M: Machine>(alloc: Global, words: &[String], machine: &mut M) -> Status
-    ensures gives { (answer : Answer) → Means (options_of (map string_bytes words.now)) (command_of (map string_bytes words.now))
-        (M.left machine.old) answer → Gives answer result (M.told machine.old)
-        (M.told machine.new) }
+    ensures gives { (answer : Answer) → Means (options_of (map string_bytes words.now))
+        (command_of (map string_bytes words.now)) (M.left machine.old) answer
+        → Gives answer result (M.told machine.old) (M.told machine.new) }
     ensures means { TellsScript (command_of (map string_bytes words.now)) (M.left machine.old)
         → IsFinal result
-        → (answer : Answer) × Means (options_of (map string_bytes words.now)) (command_of (map string_bytes words.now))
-        (M.left machine.old) answer × (result ≡ answer.status) }
+        → (answer : Answer) × Means (options_of (map string_bytes words.now))
+        (command_of (map string_bytes words.now)) (M.left machine.old) answer
+        × (result ≡ answer.status) }
     ensures usage { (word : ℕ) → command_of (map string_bytes words.now) ≡ asked.Usage word
         → (result ≡ ended.Usage word) ⊎ (result ≡ ended.NoMemory) }
     ensures usage_only { (word : ℕ) → result ≡ ended.Usage word
@@ -255,22 +257,22 @@ fn answer<M: Machine>(alloc: Global, words: &[String], machine: &mut M) -> Statu
 /// The machine comes back with all that happened to it.
 pub fn run<M: Machine>(alloc: Global, words: &Vec<String>, machine: M) -> (M, Status)
     // What is shown is a front of the text that the words and the script mean.
-    ensures shown { (answer : Answer) → Means (options_of (map string_bytes words.now.items)) (command_of (map string_bytes words.now.items))
-        (M.left machine) answer
+    ensures shown { (answer : Answer) → Means (options_of (map string_bytes words.now.items))
+        (command_of (map string_bytes words.now.items)) (M.left machine) answer
         → IsFrontShown answer.text (shown_of (M.told machine)) (shown_of (M.told result.0)) }
 
     // Words and a script that is told always mean something.
-    ensures meant { (options : Options) (command : Command) (input : Option (List ℕ)) → TellsScript command input
-        → (answer : Answer) × Means options command input answer }
+    ensures meant { (options : Options) (command : Command) (input : Option (List ℕ))
+        → TellsScript command input → (answer : Answer) × Means options command input answer }
 
     // Without a fault and want of memory, all of the text is shown, and the status is the script's own.
     ensures whole { TellsScript (command_of (map string_bytes words.now.items)) (M.left machine)
         → IsFinal result.1
-        → (answer : Answer) × Means (options_of (map string_bytes words.now.items)) (command_of (map string_bytes words.now.items))
-        (M.left machine) answer × (result.1 ≡ answer.status)
-        × IsShown answer.text (shown_of (M.told machine)) (shown_of (M.told result.0)) }
-    ensures answered { (answer : Answer) → Means (options_of (map string_bytes words.now.items)) (command_of (map string_bytes words.now.items))
-        (M.left machine) answer
+        → (answer : Answer) × Means (options_of (map string_bytes words.now.items))
+        (command_of (map string_bytes words.now.items)) (M.left machine) answer
+        × (result.1 ≡ answer.status) × IsShown answer.text (shown_of (M.told machine)) (shown_of (M.told result.0)) }
+    ensures answered { (answer : Answer) → Means (options_of (map string_bytes words.now.items))
+        (command_of (map string_bytes words.now.items)) (M.left machine) answer
         → (result.1 ≡ answer.status) ⊎ (result.1 ≡ ended.Fault) ⊎ (result.1 ≡ ended.NoMemory) }
 
     // The rest holds of every machine, whatever it tells.

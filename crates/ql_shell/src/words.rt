@@ -58,7 +58,11 @@ fn undashed(word: &[u8]) -> &[u8]
     requires { 2 ≤ length word.now }
     ensures { result.now ≡ spec.undashed word.now }
 {
-    if word[1] == b'-' { &word[2..] } else { &word[1..] }
+    if word[1] == b'-' {
+        &word[2..]
+    } else {
+        &word[1..]
+    }
 }
 
 /// How many bytes the name of an option has.
@@ -206,11 +210,17 @@ pub fn read_words(alloc: Global, words: &[String]) -> Result<Request, NoMemory>
         number += 1;
         match word_of(word.as_bytes()) {
             Word::Flag(flag, on) => options = options.with(flag, on),
-            Word::Unknown => return Ok(Request { options, command: Command::Usage(number) }),
+            Word::Unknown => return Ok(Request {
+                options,
+                command: Command::Usage(number),
+            }),
             Word::End => return read_statement(alloc, options, more),
             Word::Statement => return read_statement(alloc, options, left),
         }
         left = more;
     }
-    Ok(Request { options, command: Command::Input })
+    Ok(Request {
+        options,
+        command: Command::Input,
+    })
 }
