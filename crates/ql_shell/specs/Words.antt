@@ -41,22 +41,30 @@ abbrev pub value_in : List ℕ → Option (List ℕ)
 value_in text = behind_first (drop (prefix_len is_in_name text) text)
 
 -- the options, a line each
-abbrev pub flag_named : List ℕ → Option Flag
+unfoldable pub flag_named : List ℕ → Option Flag
 flag_named name =
     if bytes_eq name (codes "fld") then Some flag.Fld else None
 
--- a value by which a flag is set
-abbrev pub is_yes : List ℕ → Bool
-is_yes value = bytes_eq value (codes "1") || bytes_eq value (codes "t") || bytes_eq value (codes "T") || bytes_eq value (codes "TRUE") || bytes_eq value (codes "true") || bytes_eq value (codes "True")
+-- a letter by which a flag is set
+unfoldable pub is_yes_letter : List ℕ → Bool
+is_yes_letter value = bytes_eq value (codes "1") || bytes_eq value (codes "t") || bytes_eq value (codes "T")
 
--- a value by which it is unset
-abbrev pub is_no : List ℕ → Bool
-is_no value = bytes_eq value (codes "0") || bytes_eq value (codes "f") || bytes_eq value (codes "F") || bytes_eq value (codes "FALSE") || bytes_eq value (codes "false") || bytes_eq value (codes "False")
+-- a word by which a flag is set
+unfoldable pub is_yes_word : List ℕ → Bool
+is_yes_word value = bytes_eq value (codes "TRUE") || bytes_eq value (codes "true") || bytes_eq value (codes "True")
+
+-- a letter by which it is unset
+unfoldable pub is_no_letter : List ℕ → Bool
+is_no_letter value = bytes_eq value (codes "0") || bytes_eq value (codes "f") || bytes_eq value (codes "F")
+
+-- a word by which it is unset
+unfoldable pub is_no_word : List ℕ → Bool
+is_no_word value = bytes_eq value (codes "FALSE") || bytes_eq value (codes "false") || bytes_eq value (codes "False")
 
 -- whether a flag is set by its value, where that is one; a flag alone is
 abbrev pub is_set : Option (List ℕ) → Option Bool
 is_set None = Some true
-is_set (Some value) = if is_yes value then Some true else if is_no value then Some false else None
+is_set (Some value) = if is_yes_letter value || is_yes_word value then Some true else if is_no_letter value || is_no_word value then Some false else None
 
 -- a flag that is known, with a value that is one
 abbrev pub flag_word : Option Flag → Option Bool → Word
@@ -65,11 +73,11 @@ flag_word (Some flag) None = word.Unknown
 flag_word None on = word.Unknown
 
 -- an option, by its text without dashes
-abbrev pub option_word : List ℕ → Word
+unfoldable pub option_word : List ℕ → Word
 option_word text = flag_word (flag_named (name_in text)) (is_set (value_in text))
 
 -- what a word is, as long as options are read
-abbrev pub word_of : List ℕ → Word
+unfoldable pub word_of : List ℕ → Word
 word_of w = if ends_options w then word.End else if is_option w then option_word (undashed w) else word.Statement
 
 -- options with a flag set or unset

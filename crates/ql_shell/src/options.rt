@@ -35,6 +35,7 @@ impl Options {
 }
 
 /// The flag with a name.
+#[tactic(auto, unfolding(crate::specs::Words::flag_named))]
 pub fn flag_named(name: &[u8]) -> Option<Flag>
     ensures { result ≡ spec.flag_named name.now }
 {

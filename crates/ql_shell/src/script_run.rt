@@ -270,7 +270,8 @@ pub fn run<M: Machine>(alloc: Global, words: &Vec<String>, machine: M) -> (M, St
         → IsFinal result.1
         → (answer : Answer) × Means (options_of (map string_bytes words.now.items))
         (command_of (map string_bytes words.now.items)) (M.left machine) answer
-        × (result.1 ≡ answer.status) × IsShown answer.text (shown_of (M.told machine)) (shown_of (M.told result.0)) }
+        × (result.1 ≡ answer.status)
+        × IsShown answer.text (shown_of (M.told machine)) (shown_of (M.told result.0)) }
     ensures answered { (answer : Answer) → Means (options_of (map string_bytes words.now.items))
         (command_of (map string_bytes words.now.items)) (M.left machine) answer
         → (result.1 ≡ answer.status) ⊎ (result.1 ≡ ended.Fault) ⊎ (result.1 ≡ ended.NoMemory) }

@@ -90,38 +90,44 @@ fn behind_first(text: &[u8]) -> Option<&[u8]>
     }
 }
 
-fn is_yes(value: &[u8]) -> bool
-    ensures { result ≡ spec.is_yes value.now }
+#[tactic(auto, unfolding(crate::specs::Words::is_yes_letter))]
+fn is_yes_letter(value: &[u8]) -> bool
+    ensures { result ≡ spec.is_yes_letter value.now }
 {
-    value == b"1".as_slice()
-        || value == b"t".as_slice()
-        || value == b"T".as_slice()
-        || value == b"TRUE".as_slice()
-        || value == b"true".as_slice()
-        || value == b"True".as_slice()
+    value == b"1".as_slice() || value == b"t".as_slice() || value == b"T".as_slice()
 }
 
-fn is_no(value: &[u8]) -> bool
-    ensures { result ≡ spec.is_no value.now }
+#[tactic(auto, unfolding(crate::specs::Words::is_yes_word))]
+fn is_yes_word(value: &[u8]) -> bool
+    ensures { result ≡ spec.is_yes_word value.now }
 {
-    value == b"0".as_slice()
-        || value == b"f".as_slice()
-        || value == b"F".as_slice()
-        || value == b"FALSE".as_slice()
-        || value == b"false".as_slice()
-        || value == b"False".as_slice()
+    value == b"TRUE".as_slice() || value == b"true".as_slice() || value == b"True".as_slice()
+}
+
+#[tactic(auto, unfolding(crate::specs::Words::is_no_letter))]
+fn is_no_letter(value: &[u8]) -> bool
+    ensures { result ≡ spec.is_no_letter value.now }
+{
+    value == b"0".as_slice() || value == b"f".as_slice() || value == b"F".as_slice()
+}
+
+#[tactic(auto, unfolding(crate::specs::Words::is_no_word))]
+fn is_no_word(value: &[u8]) -> bool
+    ensures { result ≡ spec.is_no_word value.now }
+{
+    value == b"FALSE".as_slice() || value == b"false".as_slice() || value == b"False".as_slice()
 }
 
 /// Whether a flag is set by its value.
 fn is_set(value: Option<&[u8]>) -> Option<bool>
-    ensures { result ≡ spec.is_set (option_map (λ x. x.now) value) }
+    ensures { result ≡ spec.is_set (option_map (λ x. x.now) value.entry) }
 {
     match value {
         None => Some(true),
         Some(value) => {
-            if is_yes(value) {
+            if is_yes_letter(value) || is_yes_word(value) {
                 Some(true)
-            } else if is_no(value) {
+            } else if is_no_letter(value) || is_no_word(value) {
                 Some(false)
             } else {
                 None
@@ -143,6 +149,7 @@ fn flag_word(flag: Option<Flag>, on: Option<bool>) -> Word
 }
 
 /// What an option is, by its text without dashes.
+#[tactic(auto, unfolding(crate::specs::Words::option_word))]
 fn option_word(text: &[u8]) -> Word
     ensures { result ≡ spec.option_word text.now }
 {
@@ -151,6 +158,7 @@ fn option_word(text: &[u8]) -> Word
     flag_word(flag_named(&text[..len]), is_set(value))
 }
 
+#[tactic(auto, unfolding(crate::specs::Words::word_of))]
 fn word_of(word: &[u8]) -> Word
     ensures { result ≡ spec.word_of word.now }
 {
