@@ -1,6 +1,6 @@
 -- What the definitions give on a few words.
-use Rattle.std.proofs.Common.{◌≡◌, [], ◌∷◌, true, false, refl}
-use Rattle.std.specs.Prelude.{List, ℕ, codes}
+use Rattle.std.proofs.Common.{◌≡◌, [], ◌∷◌, true, refl}
+use Rattle.std.specs.Prelude.{codes}
 use Rattle.ql_shell.specs.Words.{request, request_of, no_options, word_of, option_word, flag_named, is_yes_letter, is_yes_word, is_no_letter, is_no_word}
 use Rattle.ql_shell.specs.declared.options.Options.{Options}
 use Rattle.ql_shell.specs.declared.words.Command.TheVariants.{Usage, Text, Input}

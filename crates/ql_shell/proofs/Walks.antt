@@ -1,5 +1,5 @@
 -- Words that are gone over in order.
-use Rattle.std.proofs.Common.{◌≡◌, ℕ, suc, Bool, List, [], ◌∷◌, refl, sym, ap, ◌∙◌}
+use Rattle.std.proofs.Common.{◌≡◌, ℕ, suc, Bool, List, [], ◌∷◌, sym, ap, ◌∙◌}
 use Rattle.ql_shell.specs.declared.options.Flag.{Flag}
 use Rattle.ql_shell.specs.declared.options.Options.{Options}
 use Rattle.ql_shell.specs.declared.words.Command.TheVariants.{Usage, Input}
