@@ -1,6 +1,7 @@
 //! Contents by handle in blocks of a content, over any filer.
-#![tactic(auto)]
+#![tactic(auto, using(crate::proofs::Stays::stops_none, crate::proofs::Stays::stops_then))]
 
+mod bytes;
 mod chain;
 mod content;
 mod front;
