@@ -9,3 +9,5 @@ pub mod Walked
 pub mod Stays
 pub mod Parts
 pub mod Finds
+pub mod Spelled
+pub mod Created

@@ -36,7 +36,7 @@ rested b c m is =
     let same : Some (heap l.row) ≡ Some m = sym l.heap_is ∙ is in
     record { row = l.row; lays = l.lays; rest = l.rest; heap_is = cc }
 
-no_contents : heap_in [] ≡ Some []
+pub no_contents : heap_in [] ≡ Some []
 unfolding heap_in
 no_contents = refl
 

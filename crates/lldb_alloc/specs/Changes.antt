@@ -51,3 +51,7 @@ LacksPart at atoms c = (x y : List Extent) (s : ℕ) → at ≡ 8 + atoms_in x �
 -- the bytes of a used block are written at an atom
 abbrev pub WritesUsed : ℕ → List ℕ → List ℕ → List ℕ → Type 0
 WritesUsed at content c d = (piece : List ℕ) × IsBlock 0 0 (Used content) piece × (d ≡ put (16 * at) piece c)
+
+-- the content was empty, and is a table of empty lists with no block
+abbrev pub NewTable : List ℕ → List ℕ → Type 0
+NewTable c d = Lays d []

@@ -4,8 +4,11 @@
 mod bytes;
 mod chain;
 mod content;
+mod create;
 mod front;
 mod links;
 mod room;
+mod write;
 
 pub use content::read_content;
+pub use create::create_content;
