@@ -1,5 +1,5 @@
 -- A content is added to a heap that is told.
-use Rattle.std.proofs.Common.{◌≡◌, ℕ, ◌+◌, ◌-◌, ◌*◌, ◌/◌, ◌<◌, ◌≤◌, List, [], ◌∷◌, ◌++◌, length, Option, Some, None, IfSome, refl, sym, ◌∙◌, ap, subst, inl, inr, arith, get_or}
+use Rattle.std.proofs.Common.{◌≡◌, ℕ, ◌+◌, ◌-◌, ◌*◌, ◌/◌, ◌<◌, ◌≤◌, List, [], ◌∷◌, ◌++◌, length, Option, Some, None, IfSome, refl, sym, ◌∙◌, ap, subst, inl, inr, arith, get_or, option_map}
 use Rattle.std.proofs.lemmas.Bool.{cases_eq}
 use Rattle.std.specs.Option.{IsSomeAnd}
 use Rattle.lldb_base.specs.Batch.{put}
@@ -16,7 +16,8 @@ use Rattle.lldb_blocks.proofs.Looks.{found, look_past}
 use Rattle.lldb_blocks.proofs.Heaps.{heap_at, meant}
 use Rattle.lldb_blocks.proofs.Lays.{lays_filled, lays_grown, lays_length}
 use Rattle.lldb_blocks.proofs.Bridges.{lays_heap, sound_lays}
-use Rattle.lldb_blocks.proofs.Readings.{rest_new}
+use Rattle.lldb_blocks.proofs.Places.{put_end}
+use Rattle.lldb_blocks.proofs.Readings.{lays_new, rest_new}
 use Rattle.lldb_blocks.proofs.Calls.{made_whole, made_part, made_last, empty_row}
 use Rattle.lldb_alloc.specs.Changes.{Turns, LacksRow, LacksPart, TakesPart, WritesUsed, NewTable, left_over}
 use Rattle.lldb_alloc.specs.Room.{FindsRoom, most_in, most_free_told}
@@ -163,3 +164,9 @@ none_empty (Some []) long = untiled
     unfolding sound_tiling tiling
     untiled = refl
 none_empty (Some (b ∷ c)) long = absurd (omega (arith, long))
+
+-- a table of zeros in an empty content
+pub table_told : (before after : Option (List ℕ)) (t : List ℕ) → length t ≡ 128 → ((i : ℕ) → get_or t i 0 ≡ 0) → IfSome before (λ c. length c ≡ 0) → after ≡ option_map (put 0 t) before → Turns before after NewTable
+table_told None after t long zeros none is = tt
+table_told (Some (b ∷ c)) after t long zeros none is = absurd (omega (arith, none))
+table_told (Some []) after t long zeros none is = subst (λ (o : Option (List ℕ)). IsSomeAnd o (λ d. NewTable [] d)) (sym is) (subst (λ (d : List ℕ). Lays d []) (sym (put_end [] t)) (lays_new t long zeros))

@@ -8,6 +8,7 @@ use Rattle.lldb_base.specs.Batch.{put}
 use Rattle.lldb_base.specs.Contents.{atoms_for}
 use Rattle.lldb_atoms.specs.declared.block.Block.{Block}
 use Rattle.lldb_atoms.specs.declared.block.Block.TheVariants as block
+use Rattle.lldb_atoms.specs.Numbers.{as_bytes}
 use Rattle.lldb_atoms.specs.Heads.{head_of}
 use Rattle.lldb_atoms.specs.Blocks.{Used, used_head, IsBlock}
 use Rattle.lldb_atoms.proofs.AsBytes.{length-as_bytes}

@@ -154,16 +154,16 @@ not_last (e ∷ y) closed = closed
 
 taken_behind : (at s total : ℕ) (c d : List ℕ) (x y : List Extent) → TakesBehind at s total c d → at ≡ 8 + atoms_in x → Lays c (x ++ Hole s ∷ y) → are_spaced false y ≡ true → ends_free false y ≡ false → Named (x ++ Hole s ∷ y) → Before at total d (x ++ Hole s ∷ y) x
 taken_behind at s total c d x [] takes place l spread closed named =
-    let r = takes.other x [] place refl l in
+    let r = takes.other x [] place refl refl l in
     subst (λ (k : ℕ). Before at k d (x ++ Hole s ∷ []) x) (sym r.0)
     (record { y = []; lays = subst (λ (k : ℕ). Lays d (x ++ Hole k ∷ [])) r.0 r.1; spread_y = refl; closed_y = refl; named = named; heap_is = refl; atoms_are = refl })
 taken_behind at s total c d x (Used u ∷ y) takes place l spread closed named =
-    let r = takes.other x (Used u ∷ y) place refl l in
+    let r = takes.other x (Used u ∷ y) place refl spread l in
     subst (λ (k : ℕ). Before at k d (x ++ Hole s ∷ Used u ∷ y) x) (sym r.0)
     (record { y = Used u ∷ y; lays = subst (λ (k : ℕ). Lays d (x ++ Hole k ∷ Used u ∷ y)) r.0 r.1; spread_y = spread; closed_y = closed; named = named; heap_is = refl; atoms_are = refl })
 taken_behind at s total c d x (Compressed u ∷ y) takes place l spread closed named = absurd (false≢true spread)
 taken_behind at s total c d x (Moved t ∷ y) takes place l spread closed named =
-    let r = takes.other x (Moved t ∷ y) place refl l in
+    let r = takes.other x (Moved t ∷ y) place refl spread l in
     subst (λ (k : ℕ). Before at k d (x ++ Hole s ∷ Moved t ∷ y) x) (sym r.0)
     (record { y = Moved t ∷ y; lays = subst (λ (k : ℕ). Lays d (x ++ Hole k ∷ Moved t ∷ y)) r.0 r.1; spread_y = spread; closed_y = closed; named = named; heap_is = refl; atoms_are = refl })
 taken_behind at s total c d x (Free t ∷ y) takes place l spread closed named =
@@ -187,7 +187,7 @@ taken_behind at s total c d x (Hole t ∷ y) takes place l spread closed named =
 taken_before : (at s from total : ℕ) (c d : List ℕ) (x : List Extent) (old : List Extent) → TakesBefore at s from total c d → at ≡ 8 + atoms_in x → are_spaced false x ≡ true → Before at s c old x → Alone from total d old
 taken_before at s from total c d x old takes place spread b = elim (back_cases x) [
   | inl other ↦
-      let r = takes.other x b.y place other b.lays in
+      let r = takes.other x b.y place other spread b.lays in
       subst (λ (k : ℕ). Alone from k d old) (sym r.1)
       (record {
         x = x;
