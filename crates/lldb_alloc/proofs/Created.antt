@@ -10,6 +10,7 @@ use Rattle.lldb_atoms.specs.Blocks.{Extent, Used, Free, Hole, Tile}
 use Rattle.lldb_atoms.specs.Rows.{atoms_in, extent_at, contains, targets, heap}
 use Rattle.lldb_atoms.specs.Lists.{row_of}
 use Rattle.lldb_atoms.specs.Sound.{sound_tiling, heap_in, tiling}
+use Rattle.lldb_atoms.proofs.Says.{atoms_some}
 use Rattle.lldb_blocks.specs.Laid.{Solid, Lays, AtRest}
 use Rattle.lldb_blocks.specs.Steps.{largest}
 use Rattle.lldb_blocks.proofs.Looks.{found, look_past}
@@ -21,10 +22,9 @@ use Rattle.lldb_blocks.proofs.Readings.{lays_new, rest_new}
 use Rattle.lldb_blocks.proofs.Calls.{made_whole, made_part, made_last, empty_row}
 use Rattle.lldb_alloc.specs.Changes.{Turns, LacksRow, LacksPart, TakesPart, WritesUsed, NewTable, left_over}
 use Rattle.lldb_alloc.specs.Room.{FindsRoom, most_in, most_free_told}
-use Rattle.lldb_alloc.specs.Told.{heap_told, Creates}
+use Rattle.lldb_alloc.specs.Told.{heap_told, Creates, Rested}
 use Rattle.lldb_alloc.proofs.Parts.{left_none, left_some}
-use Rattle.lldb_alloc.proofs.Spelled.{some_atoms}
-use Rattle.lldb_alloc.proofs.ToldHeaps.{Rested, rested, no_contents}
+use Rattle.lldb_alloc.proofs.ToldHeaps.{rested, no_contents}
 
 -- what is said of a heap that is told, by the row at rest that lies in its content
 pub by_row : (P : Option Contents → Type 0) (b : ℕ) (c : List ℕ) → P None → ((row : List Extent) → Lays (b ∷ c) row → AtRest row → P (Some (heap row))) → P (heap_in (b ∷ c))
@@ -72,8 +72,8 @@ grown : (c d : List ℕ) (row : List Extent) (at : ℕ) (u : List ℕ) → lengt
 grown c d row at u long l rest w =
     let all = lays_length c row l in
     let place : at ≡ 8 + atoms_in row = omega (arith, all, long) in
-    let made = made_last row u l.spells.solid rest (some_atoms (length u)) in
-    let grows : Lays (put (length c) w.0 c) (row ++ Used u ∷ []) = lays_grown c row (Used u) w.0 refl (some_atoms (length u)) w.1 l in
+    let made = made_last row u l.spells.solid rest (atoms_some (length u)) in
+    let grows : Lays (put (length c) w.0 c) (row ++ Used u ∷ []) = lays_grown c row (Used u) w.0 refl (atoms_some (length u)) w.1 l in
     let same : d ≡ put (length c) w.0 c = w.2 ∙ ap (λ (n : ℕ). put n w.0 c) (sym long) in
     let lays : Lays d (row ++ Used u ∷ []) = subst (λ (z : List ℕ). Lays z (row ++ Used u ∷ [])) (sym same) grows in (
       unused row at None l.spells.solid (ap (extent_at 8 row) place ∙ look_past 8 row (8 + atoms_in row) l.spells.solid (omega arith)) refl,
@@ -135,7 +135,7 @@ filled c d e row at u l rest room takes w =
           (made.0, made.1 ∙ ap (λ (k : ℕ). with_content (8 + atoms_in x) u (heap (x ++ Free k ∷ y))) (sym same))
       | inr some ↦
           let whole : s ≡ atoms_for (length u) + (s - atoms_for (length u)) = omega (arith, room) in
-          let made = made_part x u (s - atoms_for (length u)) y (omega (arith, some)) (subst (λ (k : ℕ). Solid (x ++ Free k ∷ y)) whole solid) (subst (λ (k : ℕ). AtRest (x ++ Free k ∷ y)) whole rest) (some_atoms (length u)) in
+          let made = made_part x u (s - atoms_for (length u)) y (omega (arith, some)) (subst (λ (k : ℕ). Solid (x ++ Free k ∷ y)) whole solid) (subst (λ (k : ℕ). AtRest (x ++ Free k ∷ y)) whole rest) (atoms_some (length u)) in
           subst (λ (z : List Extent). AtRest (x ++ Used u ∷ (z ++ y)) × (heap (x ++ Used u ∷ (z ++ y)) ≡ with_content (8 + atoms_in x) u (heap (x ++ Free s ∷ y)))) (sym (left_some (s - atoms_for (length u)) some))
           (made.0, made.1 ∙ ap (λ (k : ℕ). with_content (8 + atoms_in x) u (heap (x ++ Free k ∷ y))) (sym whole))
     ]
@@ -156,13 +156,13 @@ none_free (Some c) atoms some room = at_tiles (sound_tiling c) refl
     at_tiles None is = some
     at_tiles (Some tiles) is = room (row_of tiles) (sound_lays c tiles is).0
 
+untiled : most_in (sound_tiling []) ≡ 0
+unfolding sound_tiling tiling
+untiled = refl
+
 pub none_empty : (told : Option (List ℕ)) → IfSome told (λ c. length c ≡ 0) → most_free_told told ≡ 0
 none_empty None long = refl
 none_empty (Some []) long = untiled
-  where
-    untiled : most_in (sound_tiling []) ≡ 0
-    unfolding sound_tiling tiling
-    untiled = refl
 none_empty (Some (b ∷ c)) long = absurd (omega (arith, long))
 
 -- a table of zeros in an empty content

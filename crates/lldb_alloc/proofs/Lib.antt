@@ -11,3 +11,5 @@ pub mod Parts
 pub mod Finds
 pub mod Spelled
 pub mod Created
+pub mod Gaps
+pub mod Removed

@@ -38,12 +38,6 @@ long_bytes n most = elim (cases_lt 251 n) [
   | inr small ↦ let is = short_atoms n small in omega (arith, is, small)
 ]
 
-pub some_atoms : (n : ℕ) → 1 ≤ atoms_for n
-some_atoms n = elim (cases_lt 251 n) [
-  | inl large ↦ let is = long_atoms n large in omega (arith, is)
-  | inr small ↦ let is = short_atoms n small in omega (arith, is)
-]
-
 head_length : (n : ℕ) → length (head_of (used_head n)) + n + 1 ≤ 16 * atoms_for n
 head_length n = elim (cases_lt 251 n) [
   | inl large ↦
@@ -80,7 +74,7 @@ block_spelled u z b piece b1 b2 b3 k last most count head whole first second fin
     let end_is : j + 1 ≡ length r = omega (arith, fits, long_t, long_r, whole) in
     let any : List ℕ = take j r in
     let long_any : length any ≡ j = length-take-le j r (omega (arith, end_is)) in
-    let tail : put j (0 ∷ []) r ≡ any ++ 0 ∷ [] = ap (λ (w : List ℕ). any ++ ((0 ∷ []) ++ w)) (drop_of_length-le r (omega (arith, end_is))) in
+    let tail : put j (0 ∷ []) r ≡ any ++ 0 ∷ [] = ap (λ (w : List ℕ). (any ++ 0 ∷ []) ++ w) (drop_of_length-le r (omega (arith, end_is))) ∙ append-nil (any ++ 0 ∷ []) in
     let three : b3 ≡ (h ++ u) ++ (any ++ 0 ∷ []) = third ∙ ap (λ (w : List ℕ). put last (0 ∷ []) w) flat ∙ ap (λ (n : ℕ). put n (0 ∷ []) ((h ++ u) ++ r)) place ∙ put_behind (h ++ u) r (0 ∷ []) j ∙ ap (λ (w : List ℕ). (h ++ u) ++ w) tail in
     let done : b3 ≡ ((h ++ u) ++ any) ++ 0 ∷ [] = three ∙ sym (append_assoc (h ++ u) any (0 ∷ [])) in
     let sum : length h + length u + length any + 1 ≡ 16 * atoms_for (length u) = omega (arith, fits, long_t, long_r, long_any, end_is, whole) in

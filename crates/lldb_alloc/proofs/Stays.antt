@@ -3,18 +3,16 @@ use Rattle.std.proofs.Common.{◌≡◌, ℕ, List, Option, Some, None, IfSome, 
 use Rattle.ql_edge.specs.Stops.{IsSameBut, IsBetween, Adds}
 use Rattle.ql_edge.specs.Told.{Told}
 use Rattle.lldb_base.specs.Stops.{kept_of, same_but_self}
-use Rattle.lldb_alloc.specs.Frames.{KeepsStops}
+use Rattle.lldb_alloc.specs.Frames.{KeepsStops, kept}
 
 -- no call
 pub stops_none : {S : Type 0} {content_of : S → Option (List ℕ)} {saved_of : S → List (Option (List ℕ))} {leaves : S → Option (List ℕ) → Type 0} {moment_of : S → ℕ} {past : S → ℕ → ℕ → Option (List ℕ) → Type 0} {told_of : S → Told} (a : S) → KeepsStops content_of saved_of leaves moment_of past told_of a a
-unfolding KeepsStops
-stops_none a = (same_but_self, refl)
+stops_none a = kept same_but_self refl
 
 -- a call of the filer
 pub stops_once : {S : Type 0} {content_of : S → Option (List ℕ)} {saved_of : S → List (Option (List ℕ))} {leaves : S → Option (List ℕ) → Type 0} {moment_of : S → ℕ} {past : S → ℕ → ℕ → Option (List ℕ) → Type 0} {told_of : S → Told} {a b : S}
     → IsSameBut (kept_of (content_of a) (saved_of a)) (kept_of (content_of b) (saved_of b)) (leaves a) (leaves b) (moment_of a) (moment_of b) (past a) (past b) (told_of a) (told_of b) → told_of b ≡ told_of a → KeepsStops content_of saved_of leaves moment_of past told_of a b
-unfolding KeepsStops
-stops_once same told = (same, told)
+stops_once same told = kept same told
 
 -- two in a row
 same_then : {C H : Type 0} {held_a held_b held_c : H} {left_a left_b left_c : C → Type 0} {when_a when_b when_c : ℕ} {past_a past_b past_c : ℕ → ℕ → C → Type 0} {told_a told_b told_c : Told} → told_b ≡ told_a → told_c ≡ told_b
@@ -37,5 +35,4 @@ same_then {told_a = ta} {told_b = tb} {told_c = tc} one two f s = record {
 }
 
 pub stops_then : {S : Type 0} {content_of : S → Option (List ℕ)} {saved_of : S → List (Option (List ℕ))} {leaves : S → Option (List ℕ) → Type 0} {moment_of : S → ℕ} {past : S → ℕ → ℕ → Option (List ℕ) → Type 0} {told_of : S → Told} {a b c : S} → KeepsStops content_of saved_of leaves moment_of past told_of a b → KeepsStops content_of saved_of leaves moment_of past told_of b c → KeepsStops content_of saved_of leaves moment_of past told_of a c
-unfolding KeepsStops
-stops_then f s = (same_then f.1 s.1 f.0 s.0, s.1 ∙ f.1)
+stops_then (kept f one) (kept s two) = kept (same_then one two f s) (two ∙ one)

@@ -20,7 +20,5 @@ pub record KeepsContent {S : Type 0} (content_of : S → Option (List ℕ)) (siz
   pub size : size_of now ≡ size_of before
 
 -- a call left what a stop may leave, now and at each moment since an earlier one; these tell it of a filer
-unfoldable pub KeepsStops : {S : Type 0} → (S → Option (List ℕ)) → (S → List (Option (List ℕ))) → (S → Option (List ℕ) → Type 0) → (S → ℕ) → (S → ℕ → ℕ → Option (List ℕ) → Type 0) → (S → Told) → S → S → Type 0
-KeepsStops content_of saved_of leaves moment_of past told_of before now =
-    IsSameBut (kept_of (content_of before) (saved_of before)) (kept_of (content_of now) (saved_of now)) (leaves before) (leaves now) (moment_of before) (moment_of now) (past before) (past now) (told_of before) (told_of now)
-    × (told_of now ≡ told_of before)
+pub data KeepsStops {S : Type 0} (content_of : S → Option (List ℕ)) (saved_of : S → List (Option (List ℕ))) (leaves : S → Option (List ℕ) → Type 0) (moment_of : S → ℕ) (past : S → ℕ → ℕ → Option (List ℕ) → Type 0) (told_of : S → Told) (before now : S) : Type 0 where
+  kept : IsSameBut (kept_of (content_of before) (saved_of before)) (kept_of (content_of now) (saved_of now)) (leaves before) (leaves now) (moment_of before) (moment_of now) (past before) (past now) (told_of before) (told_of now) → told_of now ≡ told_of before → KeepsStops content_of saved_of leaves moment_of past told_of before now

@@ -3,3 +3,5 @@ pub mod Reads
 pub mod Told
 pub mod Changes
 pub mod Room
+pub mod Releases
+pub mod Removals

@@ -2,7 +2,7 @@
 use Rattle.std.specs.Prelude.{◌≡◌, ℕ, ◌+◌, ◌≤◌, max, Bool, true, false, List, [], ◌∷◌, ◌++◌, nat_eq, if◌then◌else◌, MatchBool}
 use Rattle.lldb_atoms.specs.Blocks.{Extent, Used, Compressed, Moved, Free, Hole, is_free}
 use Rattle.lldb_atoms.specs.Numbers.{as_bytes}
-use Rattle.lldb_atoms.specs.Rows.{atoms_in, are_spaced, ends_free, heap}
+use Rattle.lldb_atoms.specs.Rows.{atoms_in, extent_at, used_content, targets, are_spaced, ends_free, heap}
 use Rattle.lldb_blocks.specs.Links.{at_one}
 use Rattle.lldb_blocks.specs.Laid.{Spells, Lays, AtRest}
 
@@ -71,12 +71,15 @@ pub record GivesUp (at atoms : ℕ) (c d : List ℕ) : Type 0 where
   pub end : (x : List Extent) → at ≡ 8 + atoms_in x → Lays c (x ++ Hole atoms ∷ []) → Lays d x
   pub within : (x : List Extent) (e : Extent) (y : List Extent) → at ≡ 8 + atoms_in x → Lays c (x ++ Hole atoms ∷ e ∷ y) → Lays d (x ++ Free atoms ∷ e ∷ y)
 
--- a content is that of a row at rest with the heap of another row, and with no more atoms
+-- a content is that of a row at rest with the heap of another row, its used blocks and what its relocated ones name, and with no
+-- more atoms
 pub record Settled (content : List ℕ) (old : List Extent) : Type 0 where
   pub row : List Extent
   pub lays : Lays content row
   pub rest : AtRest row
   pub heap_is : heap row ≡ heap old
+  pub used_are : (atom : ℕ) → used_content (extent_at 8 row atom) ≡ used_content (extent_at 8 old atom)
+  pub targets_are : targets row ≡ targets old
   pub atoms_are : atoms_in row ≤ atoms_in old
 
 -- the most atoms of a free block, 0 where there is none
