@@ -1,9 +1,9 @@
 -- A hole takes in its free neighbours, and is given up.
 use Rattle.std.proofs.Common.{◌≡◌, ℕ, suc, ◌+◌, ◌-◌, ◌*◌, ◌<◌, ◌≤◌, ◌^◌, Bool, true, false, cond, leb, eqb, List, [], ◌∷◌, ◌++◌, length, take, drop, get_or, Option, Some, None, IfSome, option_map, Ok, refl, sym, ◌∙◌, ap, subst, inl, inr, arith, append_assoc, length-append, take_at, drop_at, le-leb, eq-eqb, ne_eqb, get_or-drop}
 use Rattle.std.specs.Option.{IsSomeAnd}
-use Rattle.std.specs.Prelude.{◌⊎◌}
+use Rattle.std.specs.Prelude.{◌⊎◌, slice_index}
 use Rattle.std.proofs.Math.Seq.{get_or-append_seam}
-use Rattle.std.proofs.lemmas.List.{drop-take, length-take-le}
+use Rattle.std.proofs.lemmas.List.{drop-take, length-take-le, take-append-drop}
 use Rattle.std.proofs.lemmas.Bool.{cases_lt, cases_eq, cond-true, cond-false, lt-leb, false≢true, and_parts}
 use Rattle.lldb_atoms.specs.Numbers.{as_bytes, number_in}
 use Rattle.lldb_atoms.specs.declared.block.Block.{Block}
@@ -386,3 +386,17 @@ release_last (Some c) (Some d) None at atoms total from most behind before lacks
 release_last (Some c) (Some d) (Some e) at atoms total from most behind before lacks = λ x y place spread_x spread_y l.
     let g = gap_behind c d at atoms total x y behind place spread_y l in
     gap_before d e at total from most x g.0 before place spread_x g.2 lacks
+
+-- what eight bytes tell
+pub ended_one : (bytes : List ℕ) → slice_index bytes 7 ≡ 254 → 1 ≡ free_by bytes
+ended_one bytes is = sym (ap (λ (k : ℕ). cond (eqb k 254) 1 (cond (eqb k 255) (number_in 7 bytes) 0)) is)
+
+pub ended_more : (bytes : List ℕ) (r : ℕ) → slice_index bytes 7 ≡ 255 → r < 2 ^ 56 → as_bytes 7 r ≡ take 7 bytes → r ≡ free_by bytes
+ended_more bytes r is small spelled =
+    sym (reads_back 7 r (drop 7 bytes) small) ∙ ap (λ (u : List ℕ). number_in 7 (u ++ drop 7 bytes)) spelled ∙ ap (number_in 7) (take-append-drop 7 bytes)
+    ∙ sym (ap (λ (k : ℕ). cond (eqb k 254) 1 (cond (eqb k 255) (number_in 7 bytes) 0)) is)
+
+pub ended_none : (bytes : List ℕ) → (slice_index bytes 7 ≡ 254 → ⊥) → (slice_index bytes 7 ≡ 255 → ⊥) → 0 ≡ free_by bytes
+ended_none bytes one more =
+    sym (cond-false (eqb (slice_index bytes 7) 254) 1 (cond (eqb (slice_index bytes 7) 255) (number_in 7 bytes) 0) (ne_eqb (slice_index bytes 7) 254 one)
+    ∙ cond-false (eqb (slice_index bytes 7) 255) (number_in 7 bytes) 0 (ne_eqb (slice_index bytes 7) 255 more))

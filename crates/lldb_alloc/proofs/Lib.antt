@@ -13,3 +13,4 @@ pub mod Spelled
 pub mod Created
 pub mod Gaps
 pub mod Removed
+pub mod Fulls

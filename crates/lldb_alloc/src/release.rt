@@ -4,7 +4,7 @@ ghost use Rattle.lldb_base.specs.Trouble.{IsCausedTrouble, Refuses};
 ghost use Rattle.lldb_blocks.specs.Steps.{TakesBehind, TakesBefore, GivesUp};
 ghost use Rattle.lldb_alloc.specs.Frames.{KeepsLevels, KeepsContent, KeepsStops};
 ghost use Rattle.lldb_alloc.specs.Changes.{Turns, LacksHole};
-ghost use Rattle.lldb_alloc.specs.Releases.{TellsFree, LacksBlock, EndsFree, LacksGap, Releases};
+ghost use Rattle.lldb_alloc.specs.Releases.{TellsFree, LacksBlock, EndsFree, LacksGap, Releases, free_by};
 
 use crate::bytes::{cut_bytes, read_bytes};
 use crate::chain::{link, unlink};
@@ -92,6 +92,7 @@ fn free_before<F: Filer>(filer: &mut F, at: u64) -> Result<u64, Trouble>
 }
 
 /// The atoms of a free block whose last bytes these are, 0 where they are those of another.
+#[tactic(auto, using(crate::proofs::Gaps::ended_one, crate::proofs::Gaps::ended_more, crate::proofs::Gaps::ended_none))]
 fn ended_by(bytes: &[u8; 8]) -> u64
     ensures atoms { result ≡ free_by bytes.now }
     ensures small { result < 2 ^ 56 }
