@@ -10,8 +10,7 @@ ghost use Rattle.lldb_alloc.specs.Told.{heap_told, Creates};
 
 use crate::bytes::write_bytes;
 use crate::room::{find_room, take_part};
-use crate::write::write_used;
-use lldb_atoms::atoms_for;
+use crate::write::{atoms_taken, write_used};
 use lldb_base::{Filer, Trouble};
 
 /// Writes a table of empty lists into an empty content.
@@ -83,7 +82,8 @@ fn create_within<F: Filer>(filer: &mut F, at: u64, content: &[u8]) -> Result<u64
         filer.new }
     ensures cause { IsCausedTrouble result (F.faults filer.old) (F.faults filer.new) }
 {
-    take_part(filer, at, atoms_for(content.len() as u32))?;
+    let atoms = atoms_taken(content);
+    take_part(filer, at, atoms)?;
     write_used(filer, at, content)?;
     Ok(at)
 }
@@ -148,7 +148,9 @@ fn create_more<F: Filer>(filer: &mut F, content: &[u8]) -> Result<u64, Trouble>
     if size / 16 * 16 != size {
         return Err(Trouble::Damaged);
     }
-    match find_room(filer, atoms_for(content.len() as u32))? {
+    let atoms = atoms_taken(content);
+    let found = find_room(filer, atoms)?;
+    match found {
         Some(at) => create_within(filer, at, content),
         None => create_behind(filer, content),
     }

@@ -30,6 +30,14 @@ fn used_head(length: usize) -> Block
     }
 }
 
+/// How many atoms a content takes.
+pub(crate) fn atoms_taken(content: &[u8]) -> u64
+    requires { length content.now ≤ 65787 }
+    ensures { result ≡ atoms_for (length content.now) }
+{
+    atoms_for(content.len() as u32)
+}
+
 /// Writes bytes into a buffer from a place on.
 fn lay(buffer: &mut [u8], at: usize, piece: &[u8])
     requires { at + length piece.now ≤ length buffer.old }
@@ -107,7 +115,7 @@ fn write_short<F: Filer>(filer: &mut F, at: u64, content: &[u8]) -> Result<(), T
     ensures cause { IsCausedTrouble result (F.faults filer.old) (F.faults filer.new) }
 {
     let mut buffer = [0; 256];
-    let count = 16 * atoms_for(content.len() as u32) as usize;
+    let count = 16 * atoms_taken(content) as usize;
     write_block(filer, at, content, &mut buffer[..count])
 }
 
@@ -135,7 +143,7 @@ fn write_long<F: Filer>(filer: &mut F, at: u64, content: &[u8]) -> Result<(), Tr
     ensures cause { IsCausedTrouble result (F.faults filer.old) (F.faults filer.new) }
 {
     let mut buffer = [0; 65_792];
-    let count = 16 * atoms_for(content.len() as u32) as usize;
+    let count = 16 * atoms_taken(content) as usize;
     write_block(filer, at, content, &mut buffer[..count])
 }
 
