@@ -7,7 +7,6 @@ mod content;
 mod create;
 mod front;
 mod links;
-mod release;
 mod room;
 mod write;
 

@@ -1,0 +1,4 @@
+use Rattle.lldb_alloc.proofs.write.lay.Goals as goal
+
+pub returns : goal.returns
+returns c = ?
