@@ -14,7 +14,7 @@ use crate::write::{atoms_taken, write_used};
 use lldb_base::{Filer, Trouble};
 
 /// Writes a table of empty lists into an empty content.
-#[tactic(auto, using(crate::proofs::Stays::stops_none, crate::proofs::Stays::stops_then, crate::proofs::Created::table_told))]
+#[tactic(auto, using(crate::proofs::Stays::stops_none, crate::proofs::Stays::stops_then))]
 fn write_table<F: Filer>(filer: &mut F) -> Result<(), Trouble>
     requires sound { IsTrue (F.is_sound filer.old) }
     requires depth { 1 ≤ length (F.saved filer.old) }
@@ -145,7 +145,8 @@ fn create_more<F: Filer>(filer: &mut F, content: &[u8]) -> Result<u64, Trouble>
     if size < 128 {
         return Err(Trouble::Damaged);
     }
-    if size / 16 * 16 != size {
+    let whole = size / 16 * 16;
+    if whole != size {
         return Err(Trouble::Damaged);
     }
     let atoms = atoms_taken(content);
