@@ -2,7 +2,7 @@ use Rattle.std.proofs.Common.{◌≡◌, map, take, drop}
 use Rattle.std.specs.List.{list_any}
 use Rattle.ql_rel.specs.Changes.{with_null}
 use Rattle.ql_rel.specs.Refusals.{is_long_with_null}
-use Rattle.ql_mem_rel.proofs.plain_columns.wider_rows.Given as goal
+use Rattle.ql_mem_rel.proofs.plain_columns.wider_piece.Given as goal
 
 abbrev pub invariant-loop-row : goal.invariant-loop-row
 invariant-loop-row l =
