@@ -1,6 +1,7 @@
 -- What is done to a piece is done to all rows.
-use Rattle.std.proofs.Common.{◌≡◌, ℕ, zero, suc, ◌+◌, ◌-◌, ◌<◌, ◌≤◌, Bool, true, false, not, cond, ◌==◌, nat_lt, nat_le, List, [], ◌∷◌, ◌++◌, length, map, filter, remove, take, find, slice_get, get_or, flat_map, append_assoc, append-nil, Option, Some, None, Result, Ok, Err, OnOk, OnErr, slice_set, refl, sym, ap, subst, ◌∙◌, arith}
+use Rattle.std.proofs.Common.{◌≡◌, ℕ, zero, suc, ◌+◌, ◌-◌, ◌<◌, ◌≤◌, Bool, true, false, not, cond, ◌==◌, nat_lt, nat_le, List, [], ◌∷◌, ◌++◌, length, map, filter, remove, take, drop, ◌||◌, find, slice_get, get_or, flat_map, append_assoc, append-nil, Option, Some, None, Result, Ok, Err, OnOk, OnErr, slice_set, refl, sym, ap, subst, ◌∙◌, arith}
 use Rattle.std.proofs.lemmas.Bool.Decides.{nat_tests}
+use Rattle.std.specs.List.{list_any}
 use Rattle.std.specs.List.Sorted.{IsPartitionedBy, IsPartitionPoint}
 use Rattle.ql_value.specs.declared.value.Value.{Value}
 use Rattle.ql_rel.specs.declared.db.Row.{Row}
@@ -332,3 +333,49 @@ filled_kept ps n p k f l e q z = filled_all n ps p f l (some_length k (length (g
 
 pub filled_pushed_piece : (ps qs : List (List Row)) (p : List Row) (k : ℕ) → AllFilled ps → k ≡ length p → (k ≡ 0 → ⊥) → qs ≡ ps ++ p ∷ [] → AllFilled qs
 filled_pushed_piece ps qs p k f q z e = subst AllFilled (sym e) (filled_more ps p f (some_length k (length p) q z))
+
+-- rows that are gone over piece by piece
+pub map_taken : (g : Row → Row) (ps : List (List Row)) (n : ℕ) (d : List Row) → n < length ps → map g (rows_of (take (suc n) ps)) ≡ map g (rows_of (take n ps)) ++ map g (get_or ps n d)
+map_taken g ps n d l = ap (map g) (rows_taken ps n d l) ∙ map-append g (rows_of (take n ps)) (get_or ps n d)
+
+rows_split : (ps : List (List Row)) (n : ℕ) (d : List Row) → n < length ps → rows_of (drop n ps) ≡ get_or ps n d ++ rows_of (drop (suc n) ps)
+rows_split [] n d l = absurd (omega arith)
+rows_split (p ∷ ps) zero d l = refl
+rows_split (p ∷ ps) (suc n) d l = rows_split ps n d (omega arith)
+
+any_behind : (q : Row → Bool) (xs ys : List Row) → list_any q xs ≡ false → list_any q (xs ++ ys) ≡ list_any q ys
+any_behind q [] ys e = refl
+any_behind q (x ∷ xs) ys e = behind_by (λ p. any_behind q xs ys p) (q x) e
+  where
+    behind_by : (list_any q xs ≡ false → list_any q (xs ++ ys) ≡ list_any q ys) → (b : Bool) → (b || list_any q xs) ≡ false → (b || list_any q (xs ++ ys)) ≡ list_any q ys
+    behind_by again true p = absurd (cc)
+    behind_by again false p = again p
+
+any_front : (q : Row → Bool) (xs ys : List Row) → list_any q xs ≡ true → list_any q (xs ++ ys) ≡ true
+any_front q [] ys e = absurd (cc)
+any_front q (x ∷ xs) ys e = front_by (λ p. any_front q xs ys p) (q x) e
+  where
+    front_by : (list_any q xs ≡ true → list_any q (xs ++ ys) ≡ true) → (b : Bool) → (b || list_any q xs) ≡ true → (b || list_any q (xs ++ ys)) ≡ true
+    front_by again true p = refl
+    front_by again false p = again p
+
+-- where the rows before a piece and its own have not what is asked, those behind it decide
+pub any_later : (q : Row → Bool) (ps : List (List Row)) (n : ℕ) (d : List Row) → n < length ps → list_any q (get_or ps n d) ≡ false → list_any q (rows_of (drop (suc n) ps)) ≡ list_any q (rows_of (drop n ps))
+any_later q ps n d l e = sym (ap (list_any q) (rows_split ps n d l) ∙ any_behind q (get_or ps n d) (rows_of (drop (suc n) ps)) e)
+
+pub any_here : (q : Row → Bool) (ps : List (List Row)) (n : ℕ) (d : List Row) → n < length ps → list_any q (get_or ps n d) ≡ true → list_any q (rows_of (drop n ps)) ≡ true
+any_here q ps n d l e = ap (list_any q) (rows_split ps n d l) ∙ any_front q (get_or ps n d) (rows_of (drop (suc n) ps)) e
+
+longer_front : (place : ℕ) (p more : List Row) → AllLonger place (p ++ more) → AllLonger place p
+longer_front place [] more h k d q = absurd (omega arith)
+longer_front place (r ∷ p) more h zero d q = h 0 d (omega arith)
+longer_front place (r ∷ p) more h (suc k) d q = longer_front place p more (λ j e o. h (suc j) e (omega arith)) k d (omega arith)
+
+longer_behind : (place : ℕ) (p more : List Row) → AllLonger place (p ++ more) → AllLonger place more
+longer_behind place [] more h = h
+longer_behind place (r ∷ p) more h = longer_behind place p more (λ j e o. h (suc j) e (omega arith))
+
+pub longer_piece : (place : ℕ) (ps : List (List Row)) (n : ℕ) (d : List Row) → AllLonger place (rows_of ps) → n < length ps → AllLonger place (get_or ps n d)
+longer_piece place [] n d h l = absurd (omega arith)
+longer_piece place (p ∷ ps) zero d h l = longer_front place p (rows_of ps) h
+longer_piece place (p ∷ ps) (suc n) d h l = longer_piece place ps n d (longer_behind place p (rows_of ps) h) (omega arith)

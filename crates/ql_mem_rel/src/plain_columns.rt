@@ -56,8 +56,9 @@ fn wider_rows(alloc: Global, rows: &RowList) -> Result<RowList, RelFault>
         fault.RowTooLong) result }
     ensures memory { WantsMemory result }
 {
-    let mut wide = RowList::new(alloc);
-    for piece in rows.pieces() {
+    let pieces = rows.pieces();
+    let mut wide = RowList::with_capacity(alloc, pieces.len())?;
+    for piece in pieces {
         wide.push_piece(wider_piece(alloc, piece.as_slice())?)?;
     }
     Ok(wide)
@@ -92,8 +93,9 @@ fn narrower_rows(alloc: Global, rows: &RowList, place: usize) -> Result<RowList,
     requires { AllLonger place rows.now }
     ensures { IfOk result (λ narrow. narrow ≡ map (without_value place) rows.now) }
 {
-    let mut narrow = RowList::new(alloc);
-    for piece in rows.pieces() {
+    let pieces = rows.pieces();
+    let mut narrow = RowList::with_capacity(alloc, pieces.len())?;
+    for piece in pieces {
         narrow.push_piece(narrower_piece(alloc, piece.as_slice(), place)?)?;
     }
     Ok(narrow)
