@@ -1,10 +1,13 @@
 -- What is done to a piece is done to all rows.
-use Rattle.std.proofs.Common.{◌≡◌, ℕ, zero, suc, ◌+◌, ◌-◌, ◌<◌, ◌≤◌, Bool, true, false, not, cond, ◌==◌, nat_lt, nat_le, List, [], ◌∷◌, ◌++◌, length, map, filter, remove, take, drop, ◌||◌, find, slice_get, get_or, flat_map, append_assoc, append-nil, Option, Some, None, Result, Ok, Err, OnOk, OnErr, slice_set, refl, sym, ap, subst, ◌∙◌, arith}
+use Rattle.std.proofs.Common.{add-one, IsErrAnd, ◌≡◌, ℕ, zero, suc, ◌+◌, ◌-◌, ◌<◌, ◌≤◌, Bool, true, false, not, cond, ◌==◌, nat_lt, nat_le, List, [], ◌∷◌, ◌++◌, length, map, filter, remove, take, drop, ◌||◌, find, slice_get, get_or, flat_map, append_assoc, append-nil, Option, Some, None, Result, Ok, Err, OnOk, OnErr, slice_set, refl, sym, ap, subst, ◌∙◌, arith}
 use Rattle.std.proofs.lemmas.Bool.Decides.{nat_tests}
 use Rattle.std.specs.List.{list_any}
 use Rattle.std.specs.List.Sorted.{IsPartitionedBy, IsPartitionPoint}
 use Rattle.ql_value.specs.declared.value.Value.{Value}
 use Rattle.ql_rel.specs.declared.db.Row.{Row}
+use Rattle.ql_rel.specs.declared.fault.RelFault.{RelFault}
+use Rattle.ql_rel.specs.declared.fault.RelFault.TheVariants as fault
+use Rattle.ql_rel.specs.Refusals.{IsRefusedBy, refused_if}
 use Rattle.ql_rel.specs.Changes.{changed_at, row_of, with_values, is_other}
 use Rattle.ql_mem_rel.specs.Pieces.{rows_of, AllFilled, AllFilledBut, end_id, piece_after}
 use Rattle.ql_mem_rel.specs.Places.{place_with, AllLonger}
@@ -379,3 +382,67 @@ pub longer_piece : (place : ℕ) (ps : List (List Row)) (n : ℕ) (d : List Row)
 longer_piece place [] n d h l = absurd (omega arith)
 longer_piece place (p ∷ ps) zero d h l = longer_front place p (rows_of ps) h
 longer_piece place (p ∷ ps) (suc n) d h l = longer_piece place ps n d (longer_behind place p (rows_of ps) h) (omega arith)
+
+-- a turn of a loop over the pieces
+pub copied_more : (ps : List (List Row)) (n : ℕ) (piece done more next : List Row) → n < length ps → piece ≡ get_or ps n piece → done ≡ rows_of (take n ps) → more ≡ piece → next ≡ done ++ more → next ≡ rows_of (take (n + 1) ps)
+copied_more ps n piece done more next l e d m x =
+    x ∙ ap (λ (xs : List Row). done ++ xs) (m ∙ e) ∙ ap (λ (xs : List Row). xs ++ get_or ps n piece) d ∙ sym (rows_taken ps n piece l) ∙ ap (λ (k : ℕ). rows_of (take k ps)) (sym add-one)
+
+pub mapped_more : (g : Row → Row) (ps : List (List Row)) (n : ℕ) (piece done more next : List Row) → n < length ps → piece ≡ get_or ps n piece → done ≡ map g (rows_of (take n ps)) → more ≡ map g piece → next ≡ done ++ more → next ≡ map g (rows_of (take (n + 1) ps))
+mapped_more g ps n piece done more next l e d m x =
+    x ∙ ap (λ (xs : List Row). done ++ xs) (m ∙ ap (map g) e) ∙ ap (λ (xs : List Row). xs ++ map g (get_or ps n piece)) d ∙ sym (map_taken g ps n piece l) ∙ ap (λ (k : ℕ). map g (rows_of (take k ps))) (sym add-one)
+
+pub longer_here : (place : ℕ) (ps : List (List Row)) (rows : List Row) (n : ℕ) (piece : List Row) → rows_of ps ≡ rows → AllLonger place rows → n < length ps → piece ≡ get_or ps n piece → AllLonger place piece
+longer_here place ps rows n piece w h l e = subst (λ (xs : List Row). AllLonger place xs) (sym e) (longer_piece place ps n piece (subst (λ (xs : List Row). AllLonger place xs) (sym w) h) l)
+
+-- and of one that ends at a row that is too long
+pub any_more : (q : Row → Bool) (ps : List (List Row)) (n : ℕ) (piece : List Row) (whole : Bool) → n < length ps → piece ≡ get_or ps n piece → refused_if (list_any q piece) fault.RowTooLong ≡ None → list_any q (rows_of (drop n ps)) ≡ whole → list_any q (rows_of (drop (n + 1) ps)) ≡ whole
+any_more q ps n piece whole l e r w =
+    ap (λ (k : ℕ). list_any q (rows_of (drop k ps))) add-one ∙ any_later q ps n piece l (ap (list_any q) (sym e) ∙ not_any (list_any q piece) r) ∙ w
+  where
+    not_any : (b : Bool) → ◌≡◌ {A = Option RelFault} (refused_if b fault.RowTooLong) None → b ≡ false
+    not_any true r = absurd (cc)
+    not_any false r = refl
+
+either_side : (T U : Type 0) (b c : Bool) (f : RelFault) → (b ≡ true → c ≡ true) → IsRefusedBy {T = T} (refused_if b fault.RowTooLong) (Err f) → IsRefusedBy {T = U} (refused_if c fault.RowTooLong) (Err f)
+either_side T U true c fault.RowTooLong m g = rw (m refl) g
+either_side T U true c (fault.KeyTooLong name) m g = rw (m refl) g
+either_side T U true c fault.IdsSpent m g = rw (m refl) g
+either_side T U true c fault.TableLimit m g = rw (m refl) g
+either_side T U true c (fault.Trouble t) m g = tt
+either_side T U false c fault.RowTooLong m g = absurd (cc)
+either_side T U false c (fault.KeyTooLong name) m g = absurd (cc)
+either_side T U false c fault.IdsSpent m g = absurd (cc)
+either_side T U false c fault.TableLimit m g = absurd (cc)
+either_side T U false c (fault.Trouble t) m g = tt
+
+too_long : (T U : Type 0) (b c : Bool) (f : RelFault) (r : Result U RelFault) → (b ≡ true → c ≡ true) → IsErrAnd r (λ e. e ≡ f) → IsRefusedBy {T = T} (refused_if b fault.RowTooLong) (Err f) → IsRefusedBy {T = U} (refused_if c fault.RowTooLong) r
+too_long T U b c f (Ok x) m i g = absurd i
+too_long T U b c f (Err e) m i g = subst (λ (x : RelFault). IsRefusedBy {T = U} (refused_if c fault.RowTooLong) (Err x)) (sym i) (either_side T U b c f m g)
+
+pub piece_exit : (T U : Type 0) (q : Row → Bool) (ps : List (List Row)) (rows : List Row) (n : ℕ) (piece : List Row) (f : RelFault) (r : Result U RelFault) → rows_of ps ≡ rows → n < length ps → piece ≡ get_or ps n piece → list_any q (rows_of (drop n ps)) ≡ list_any q (rows_of ps) →
+    IsErrAnd r (λ e. e ≡ f) → IsRefusedBy {T = T} (refused_if (list_any q piece) fault.RowTooLong) (Err f) → IsRefusedBy {T = U} (refused_if (list_any q rows) fault.RowTooLong) r
+piece_exit T U q ps rows n piece f r w l e a i g =
+    too_long T U (list_any q piece) (list_any q rows) f r (λ h. ap (list_any q) (sym w) ∙ sym a ∙ any_here q ps n piece l (ap (list_any q) (sym e) ∙ h)) i g
+
+drop_none : (k : ℕ) → ◌≡◌ {A = List (List Row)} (drop k []) []
+drop_none zero = refl
+drop_none (suc k) = refl
+
+take_none : (k : ℕ) → ◌≡◌ {A = List (List Row)} (take k []) []
+take_none zero = refl
+take_none (suc k) = refl
+
+-- a loop that has come to its end
+pub any_none : (q : Row → Bool) (ps : List (List Row)) (rows : List Row) (n : ℕ) → rows_of ps ≡ rows → length ps ≤ n → list_any q (rows_of (drop n ps)) ≡ list_any q (rows_of ps) → ◌≡◌ {A = Option RelFault} (refused_if (list_any q rows) fault.RowTooLong) None
+any_none q ps rows n w l a = rw (ap (list_any q) (sym w) ∙ sym a ∙ ap (λ (xs : List (List Row)). list_any q (rows_of xs)) (drop_all ps n l)) refl
+  where
+    drop_all : (xs : List (List Row)) (k : ℕ) → length xs ≤ k → drop k xs ≡ []
+    drop_all [] k o = drop_none k
+    drop_all (x ∷ xs) zero o = absurd (omega arith)
+    drop_all (x ∷ xs) (suc k) o = drop_all xs k (omega arith)
+
+pub taken_all : (ps : List (List Row)) (n : ℕ) → length ps ≤ n → rows_of (take n ps) ≡ rows_of ps
+taken_all [] n l = ap rows_of (take_none n)
+taken_all (p ∷ ps) zero l = absurd (omega arith)
+taken_all (p ∷ ps) (suc n) l = ap (λ (xs : List Row). p ++ xs) (taken_all ps n (omega arith))
