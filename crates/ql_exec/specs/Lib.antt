@@ -5,4 +5,3 @@ pub mod RowChanges
 pub mod Selects
 pub mod Depths
 pub mod EffectLaws
-pub mod WholeRows
