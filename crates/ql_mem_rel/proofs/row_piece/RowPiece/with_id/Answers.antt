@@ -3,7 +3,7 @@ use Rattle.std.proofs.lemmas.Grind.{common_steps}
 use Rattle.std.proofs.lemmas.Option.{gets}
 use Rattle.std.specs.Option.{option_copied}
 use Rattle.ql_mem_rel.proofs.PlaceLemmas.{with_as, found_nowhere}
-use Rattle.ql_mem_rel.proofs.row_list.RowList.with_id.Goals as goal
+use Rattle.ql_mem_rel.proofs.row_piece.RowPiece.with_id.Goals as goal
 
 pub returns-in-Some : goal.returns-in-Some
 returns-in-Some c =

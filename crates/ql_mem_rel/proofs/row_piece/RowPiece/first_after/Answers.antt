@@ -3,7 +3,7 @@ use Rattle.std.proofs.lemmas.Grind.{common_steps}
 use Rattle.std.proofs.lemmas.Option.{gets}
 use Rattle.std.specs.Option.{option_copied}
 use Rattle.ql_mem_rel.proofs.PlaceLemmas.{found_as}
-use Rattle.ql_mem_rel.proofs.row_list.RowList.first_after.Goals as goal
+use Rattle.ql_mem_rel.proofs.row_piece.RowPiece.first_after.Goals as goal
 
 pub returns : goal.returns
 returns c =

@@ -3,7 +3,7 @@ use Rattle.std.proofs.lemmas.Grind.{common_steps}
 use Rattle.std.proofs.lemmas.Option.{gets}
 use Rattle.std.specs.Option.{option_copied}
 use Rattle.ql_mem_rel.proofs.PlaceLemmas.{there_as, not_there_as, nowhere_as}
-use Rattle.ql_mem_rel.proofs.row_list.RowList.place_with.Goals as goal
+use Rattle.ql_mem_rel.proofs.row_piece.RowPiece.place_with.Goals as goal
 
 pub returns-in_err-row : goal.returns-in_err-row
 returns-in_err-row c =

@@ -1,6 +1,6 @@
 use Rattle.std.proofs.Common.{◌≡◌, ◌<◌, length, vec_len, ◌∙◌, sym, rules, arith}
 use Rattle.ql_mem_rel.proofs.PlaceLemmas.{kept_rows, removed_row, place_within}
-use Rattle.ql_mem_rel.proofs.row_list.RowList.remove.Goals as goal
+use Rattle.ql_mem_rel.proofs.row_piece.RowPiece.remove.Goals as goal
 
 pub remove-requires : goal.remove-requires
 remove-requires c =

@@ -1,6 +1,6 @@
 use Rattle.std.proofs.Common.{◌≡◌, ◌<◌, length, vec_len, sym, rules, arith}
 use Rattle.ql_mem_rel.proofs.PlaceLemmas.{kept_values, changed_row, place_within}
-use Rattle.ql_mem_rel.proofs.row_list.RowList.change.Goals as goal
+use Rattle.ql_mem_rel.proofs.row_piece.RowPiece.change.Goals as goal
 
 pub index_mut-requires : goal.index_mut-requires
 index_mut-requires c =

@@ -3,7 +3,7 @@ use Rattle.std.proofs.lemmas.List.Sorted.{IsPartitionPoint-from_clause}
 use Rattle.ql_rel.specs.declared.db.Row.{Row}
 use Rattle.ql_mem_rel.specs.Places.{place_after, is_until}
 use Rattle.ql_mem_rel.proofs.PlaceLemmas.{parted_as, parted_at}
-use Rattle.ql_mem_rel.proofs.row_list.RowList.place_after.Goals as goal
+use Rattle.ql_mem_rel.proofs.row_piece.RowPiece.place_after.Goals as goal
 
 pub returns : goal.returns
 returns c =
