@@ -63,7 +63,7 @@ pub(crate) fn add_slots<'a>(
     set: &'a [u8],
     columns: &'a ColumnDefs,
 ) -> Result<Slots<'a>, NoMemory>
-    ensures { IfOk result (λ slots. slots ≡ before ++ spec.set_slots set.now columns.now) }
+    ensures { IfOk result (λ slots. slots ≡ before.entry ++ spec.set_slots set.now columns.now) }
 {
     let mut slots = before;
     slots.push(Slot {
@@ -85,7 +85,7 @@ fn add_table<'a>(
     name: &[u8],
     table: Option<&'a TableSchema>,
 ) -> Result<Slots<'a>, CheckFault>
-    ensures { Gives (spec.add_table slots set.now name.now (table_of table.entry)) result }
+    ensures { Gives (spec.add_table slots.entry set.now name.now (table_of table.entry)) result }
 {
     let Some(table) = table else {
         return Err(CheckFault::Refused(Refusal::with_name(alloc, NO_TABLE, name)?));
@@ -114,7 +114,7 @@ fn add_named<'a>(
     alias: &'a Option<Boxed<Name>>,
     name: &'a Name,
 ) -> Result<Slots<'a>, CheckFault>
-    ensures { Gives (spec.add_named schema.now slots alias.now name.now) result }
+    ensures { Gives (spec.add_named schema.now slots.entry alias.now name.now) result }
 {
     if is_metadata(name.as_slice()) {
         return Err(CheckFault::Refused(Refusal::new(alloc, LATER)));
@@ -130,7 +130,7 @@ fn add_set<'a>(
     slots: Slots<'a>,
     set: &'a FromSet,
 ) -> Result<Slots<'a>, CheckFault>
-    ensures { Gives (spec.add_set schema.now slots set.now) result }
+    ensures { Gives (spec.add_set schema.now slots.entry set.now) result }
 {
     match &set.source {
         SetSource::Table(name) => add_named(alloc, schema, slots, &set.alias, name.get()),

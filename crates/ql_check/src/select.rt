@@ -17,7 +17,7 @@ use std::alloc::Global;
 
 /// A row, and no field.
 pub(crate) fn row_scope<'a>(alloc: Global, slots: Slots<'a>) -> Scope<'a>
-    ensures { result ≡ spec.row_scope slots }
+    ensures { result ≡ spec.row_scope slots.entry }
 {
     Scope {
         row: slots,
@@ -34,7 +34,8 @@ fn key_scope<'a>(
     scope: Scope<'a>,
     fields: &'a ResultFields,
 ) -> Result<Scope<'a>, NoMemory>
-    ensures { IfOk result (λ keys. keys ≡ spec.key_scope (kinds_of targets.now) hides scope fields.now) }
+    ensures { IfOk result (λ keys.
+        keys ≡ spec.key_scope (kinds_of targets.now) hides scope.entry fields.now) }
 {
     let fields = field_slots(alloc, targets, fields.as_slice())?;
     let Scope { row, .. } = scope;
@@ -128,7 +129,7 @@ fn keys_of<'a>(
     fields: &'a ResultFields,
     keys: &Exprs,
 ) -> Result<Typeds, CheckFault>
-    ensures { let sees = spec.key_scope (kinds_of targets.now) hides scope fields.now in
+    ensures { let sees = spec.key_scope (kinds_of targets.now) hides scope.entry fields.now in
         Gives (spec.resolve_each sees keys.now) result }
 {
     let scope = key_scope(alloc, targets, hides, scope, fields)?;
@@ -143,7 +144,7 @@ fn output_of(
     grouped: bool,
     select: &Select,
 ) -> Result<Output, CheckFault>
-    ensures { Gives (spec.output_of (kinds_of targets.now) scope grouped select.now) result }
+    ensures { Gives (spec.output_of (kinds_of targets.now) scope.entry grouped select.now) result }
 {
     let fields = fields_of(alloc, &scope, &select.fields)?;
     let grouped = grouped || any_aggregate(fields.as_slice());

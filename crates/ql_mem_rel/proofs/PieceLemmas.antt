@@ -386,11 +386,11 @@ longer_piece place (p ∷ ps) (suc n) d h l = longer_piece place ps n d (longer_
 -- a turn of a loop over the pieces
 pub copied_more : (ps : List (List Row)) (n : ℕ) (piece done more next : List Row) → n < length ps → piece ≡ get_or ps n piece → done ≡ rows_of (take n ps) → more ≡ piece → next ≡ done ++ more → next ≡ rows_of (take (n + 1) ps)
 copied_more ps n piece done more next l e d m x =
-    x ∙ ap (λ (xs : List Row). done ++ xs) (m ∙ e) ∙ ap (λ (xs : List Row). xs ++ get_or ps n piece) d ∙ sym (rows_taken ps n piece l) ∙ ap (λ (k : ℕ). rows_of (take k ps)) (sym add-one)
+    x ∙ ap (λ (xs : List Row). done ++ xs) (m ∙ e) ∙ ap (λ (xs : List Row). xs ++ get_or ps n piece) d ∙ sym (rows_taken ps n piece l) ∙ ap (λ (k : ℕ). rows_of (take k ps)) (sym (add-one n))
 
 pub mapped_more : (g : Row → Row) (ps : List (List Row)) (n : ℕ) (piece done more next : List Row) → n < length ps → piece ≡ get_or ps n piece → done ≡ map g (rows_of (take n ps)) → more ≡ map g piece → next ≡ done ++ more → next ≡ map g (rows_of (take (n + 1) ps))
 mapped_more g ps n piece done more next l e d m x =
-    x ∙ ap (λ (xs : List Row). done ++ xs) (m ∙ ap (map g) e) ∙ ap (λ (xs : List Row). xs ++ map g (get_or ps n piece)) d ∙ sym (map_taken g ps n piece l) ∙ ap (λ (k : ℕ). map g (rows_of (take k ps))) (sym add-one)
+    x ∙ ap (λ (xs : List Row). done ++ xs) (m ∙ ap (map g) e) ∙ ap (λ (xs : List Row). xs ++ map g (get_or ps n piece)) d ∙ sym (map_taken g ps n piece l) ∙ ap (λ (k : ℕ). map g (rows_of (take k ps))) (sym (add-one n))
 
 pub longer_here : (place : ℕ) (ps : List (List Row)) (rows : List Row) (n : ℕ) (piece : List Row) → rows_of ps ≡ rows → AllLonger place rows → n < length ps → piece ≡ get_or ps n piece → AllLonger place piece
 longer_here place ps rows n piece w h l e = subst (λ (xs : List Row). AllLonger place xs) (sym e) (longer_piece place ps n piece (subst (λ (xs : List Row). AllLonger place xs) (sym w) h) l)
@@ -398,7 +398,7 @@ longer_here place ps rows n piece w h l e = subst (λ (xs : List Row). AllLonger
 -- and of one that ends at a row that is too long
 pub any_more : (q : Row → Bool) (ps : List (List Row)) (n : ℕ) (piece : List Row) (whole : Bool) → n < length ps → piece ≡ get_or ps n piece → refused_if (list_any q piece) fault.RowTooLong ≡ None → list_any q (rows_of (drop n ps)) ≡ whole → list_any q (rows_of (drop (n + 1) ps)) ≡ whole
 any_more q ps n piece whole l e r w =
-    ap (λ (k : ℕ). list_any q (rows_of (drop k ps))) add-one ∙ any_later q ps n piece l (ap (list_any q) (sym e) ∙ not_any (list_any q piece) r) ∙ w
+    ap (λ (k : ℕ). list_any q (rows_of (drop k ps))) (add-one n) ∙ any_later q ps n piece l (ap (list_any q) (sym e) ∙ not_any (list_any q piece) r) ∙ w
   where
     not_any : (b : Bool) → ◌≡◌ {A = Option RelFault} (refused_if b fault.RowTooLong) None → b ≡ false
     not_any true r = absurd (cc)
