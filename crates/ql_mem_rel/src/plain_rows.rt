@@ -18,12 +18,7 @@ use ql_value::Values;
 use std::alloc::Global;
 
 /// Adds a row to the rows of a table.
-fn push_row(
-    alloc: Global,
-    rows: &mut Vec<RowList>,
-    table: usize,
-    row: Row,
-) -> Result<(), NoMemory>
+fn push_row(alloc: Global, rows: &mut Vec<RowList>, table: usize, row: Row) -> Result<(), NoMemory>
     requires { table < vec_len rows.old }
     ensures ok { OnOk result (rows.new.items ≡ changed_at table (with_row row) rows.old.items) }
     ensures err { OnErr result (rows.new.items ≡ rows.old.items) }
