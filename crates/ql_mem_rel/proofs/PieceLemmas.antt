@@ -1,5 +1,5 @@
 -- What is done to a piece is done to all rows.
-use Rattle.std.proofs.Common.{add-one, IsErrAnd, ◌≡◌, ℕ, zero, suc, ◌+◌, ◌-◌, ◌<◌, ◌≤◌, Bool, true, false, not, cond, ◌==◌, nat_lt, nat_le, List, [], ◌∷◌, ◌++◌, length, map, filter, remove, take, drop, ◌||◌, find, slice_get, get_or, flat_map, append_assoc, append-nil, Option, Some, None, Result, Ok, Err, OnOk, OnErr, slice_set, refl, sym, ap, subst, ◌∙◌, arith}
+use Rattle.std.proofs.Common.{add-one, IsErrAnd, ◌≡◌, ℕ, zero, suc, ◌+◌, ◌-◌, ◌<◌, ◌≤◌, Bool, true, false, not, cond, nat_lt, nat_le, List, [], ◌∷◌, ◌++◌, length, map, filter, remove, take, drop, ◌||◌, find, slice_get, get_or, append_assoc, append-nil, Option, Some, None, Result, Ok, Err, OnOk, OnErr, slice_set, refl, sym, ap, subst, ◌∙◌, arith}
 use Rattle.std.proofs.lemmas.Bool.Decides.{nat_tests}
 use Rattle.std.specs.List.{list_any}
 use Rattle.std.specs.List.Sorted.{IsPartitionedBy, IsPartitionPoint}
@@ -8,13 +8,13 @@ use Rattle.ql_rel.specs.declared.db.Row.{Row}
 use Rattle.ql_rel.specs.declared.fault.RelFault.{RelFault}
 use Rattle.ql_rel.specs.declared.fault.RelFault.TheVariants as fault
 use Rattle.ql_rel.specs.Refusals.{IsRefusedBy, refused_if}
-use Rattle.ql_rel.specs.Changes.{changed_at, row_of, with_values, is_other}
+use Rattle.ql_rel.specs.Changes.{changed_at, with_values, is_other}
 use Rattle.ql_mem_rel.specs.Pieces.{rows_of, AllFilled, AllFilledBut, end_id, piece_after}
 use Rattle.ql_mem_rel.specs.Places.{place_with, AllLonger}
 use Rattle.ql_rel.specs.Rels.{is_after, has_id}
 use Rattle.ql_rel.specs.WellFormed.{Rise}
 use Rattle.ql_mem_rel.proofs.TableLemmas.{set-as, set-kept}
-use Rattle.ql_mem_rel.proofs.PlaceLemmas.{until-true, until-le, after_until, after_not, lt-true, lt-false, eq-other, eq-over, none_below, found_nowhere, kept_values, kept_rows}
+use Rattle.ql_mem_rel.proofs.PlaceLemmas.{until-true, until-le, after_until, after_not, lt-true, lt-false, eq-other, none_below, found_nowhere, kept_values, kept_rows}
 
 abbrev pub id_if : Option Row → ℕ
 id_if None = 0

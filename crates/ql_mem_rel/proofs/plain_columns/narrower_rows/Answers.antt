@@ -1,4 +1,4 @@
-use Rattle.std.proofs.Common.{rules, ◌≡◌, sym, subst, length, ◌<◌, List, get_or}
+use Rattle.std.proofs.Common.{sym, subst, List}
 use Rattle.ql_rel.specs.declared.db.Row.{Row}
 use Rattle.ql_mem_rel.specs.Places.{AllLonger}
 use Rattle.ql_mem_rel.proofs.PieceLemmas.{longer_here}

@@ -1,4 +1,4 @@
-use Rattle.std.proofs.Common.{◌≡◌, ◌<◌, length, vec_len, subst, sym, ap, ◌∙◌, rules, arith}
+use Rattle.std.proofs.Common.{◌≡◌, length, vec_len, subst, sym, ap, ◌∙◌, rules, arith}
 use Rattle.ql_mem_rel.specs.Pieces.{rows_of, AllFilled}
 use Rattle.ql_mem_rel.proofs.PieceLemmas.{rows_dropped, filled_left, filled_kept}
 use Rattle.ql_mem_rel.proofs.row_pieces.drop_empty.Goals as goal

@@ -1,4 +1,4 @@
-use Rattle.std.proofs.Common.{◌≡◌, ◌<◌, length, vec_len, filter, subst, sym, rules, arith}
+use Rattle.std.proofs.Common.{◌≡◌, length, vec_len, filter, subst, sym, rules, arith}
 use Rattle.ql_rel.specs.Changes.{is_other}
 use Rattle.ql_mem_rel.specs.Pieces.{AllFilledBut}
 use Rattle.ql_mem_rel.proofs.PieceLemmas.{rise_here, filled_but}

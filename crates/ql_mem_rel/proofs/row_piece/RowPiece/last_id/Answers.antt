@@ -1,4 +1,4 @@
-use Rattle.std.proofs.Common.{Some, None, ◌∙◌, sym}
+use Rattle.std.proofs.Common.{Some, None, ◌∙◌}
 use Rattle.ql_mem_rel.proofs.PieceLemmas.{end_got}
 use Rattle.ql_mem_rel.proofs.row_piece.RowPiece.last_id.Goals as goal
 
