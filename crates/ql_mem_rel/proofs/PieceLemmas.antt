@@ -1,5 +1,5 @@
 -- What is done to a piece is done to all rows.
-use Rattle.std.proofs.Common.{add-one, IsErrAnd, ◌≡◌, ℕ, zero, suc, ◌+◌, ◌-◌, ◌<◌, ◌≤◌, Bool, true, false, not, cond, nat_lt, nat_le, List, [], ◌∷◌, ◌++◌, length, map, filter, remove, take, drop, ◌||◌, find, slice_get, get_or, append_assoc, append-nil, Option, Some, None, Result, Ok, Err, OnOk, OnErr, slice_set, refl, sym, ap, subst, ◌∙◌, arith}
+use Rattle.std.proofs.Common.{add-one, IsErrAnd, ◌≡◌, ℕ, zero, suc, ◌+◌, ◌-◌, ◌<◌, ◌≤◌, Bool, true, false, cond, nat_lt, nat_le, List, [], ◌∷◌, ◌++◌, length, map, filter, remove, take, drop, ◌||◌, find, slice_get, get_or, append_assoc, append-nil, Option, Some, None, Result, Ok, Err, OnOk, OnErr, slice_set, refl, sym, ap, subst, ◌∙◌, arith}
 use Rattle.std.proofs.lemmas.Bool.Decides.{nat_tests}
 use Rattle.std.specs.List.{list_any}
 use Rattle.std.specs.List.Sorted.{IsPartitionedBy, IsPartitionPoint}
