@@ -27,4 +27,5 @@ pub mod InsertSelects
 pub mod ChangeFits
 pub mod MadeLemmas
 pub mod CreateLemmas
+pub mod AlteredLemmas
 pub mod Gathered
