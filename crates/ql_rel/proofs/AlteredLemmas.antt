@@ -32,7 +32,7 @@ record Beside (t u : TableSchema) (s z : Schema) : Type 0 where
   free : (name : List ℕ) → has_name name (index_names s.indexes) ≡ false → has_name name (index_names z.indexes) ≡ false
   there : (i : Index) → KeepsIndex t u i → list_any (is_index_at i.name i.table i.item) s.tables ≡ true → list_any (is_index_at i.name i.table i.item) z.tables ≡ true
 
-or_steps : (p q x y : Bool) → (p ≡ true → q ≡ true) → (x ≡ true → y ≡ true) → (p || x) ≡ true → (q || y) ≡ true
+pub or_steps : (p q x y : Bool) → (p ≡ true → q ≡ true) → (x ≡ true → y ≡ true) → (p || x) ≡ true → (q || y) ≡ true
 or_steps true q x y f g e = rw (f refl) refl
 or_steps false true x y f g e = refl
 or_steps false false x y f g e = g e

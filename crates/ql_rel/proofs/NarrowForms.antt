@@ -136,7 +136,7 @@ narrow_holds next tables indexes k t l h = record {
 
 -- the schema
 
-abbrev narrower : ℕ → TableSchema → TableSchema
+abbrev pub narrower : ℕ → TableSchema → TableSchema
 narrower k t = record { name = t.name; columns = remove t.columns k }
 
 within_narrower : (k : ℕ) (t : TableSchema) → k < length t.columns → 1 < length t.columns → IsTableWithin t → IsTableWithin (narrower k t)
