@@ -81,7 +81,7 @@ none_more : {A : Type 0} (q : A → Bool) (xs : List A) (x : A) → list_any q x
 none_more q [] x h e = neither (q x) false e refl
 none_more q (y ∷ xs) x h e = let parts = or_parts (q y) (list_any q xs) h in neither (q y) (list_any q (xs ++ x ∷ [])) parts.0 (none_more q xs x parts.1 e)
 
-all_more : {A : Type 0} (q : A → Bool) (xs : List A) (x : A) → list_all q xs ≡ true → q x ≡ true → list_all q (xs ++ x ∷ []) ≡ true
+pub all_more : {A : Type 0} (q : A → Bool) (xs : List A) (x : A) → list_all q xs ≡ true → q x ≡ true → list_all q (xs ++ x ∷ []) ≡ true
 all_more q [] x h e = both_parts (q x) true e refl
 all_more q (y ∷ xs) x h e = let parts = two_parts (q y) (list_all q xs) h in both_parts (q y) (list_all q (xs ++ x ∷ [])) parts.0 (all_more q xs x parts.1 e)
 
@@ -174,7 +174,7 @@ none_less q (suc k) [] h = refl
 none_less q zero (x ∷ xs) h = (or_parts (q x) (list_any q xs) h).1
 none_less q (suc k) (x ∷ xs) h = let parts = or_parts (q x) (list_any q xs) h in neither (q x) (list_any q (remove xs k)) parts.0 (none_less q k xs parts.1)
 
-all_less : {A : Type 0} (q : A → Bool) (k : ℕ) (xs : List A) → list_all q xs ≡ true → list_all q (remove xs k) ≡ true
+pub all_less : {A : Type 0} (q : A → Bool) (k : ℕ) (xs : List A) → list_all q xs ≡ true → list_all q (remove xs k) ≡ true
 all_less q zero [] h = refl
 all_less q (suc k) [] h = refl
 all_less q zero (x ∷ xs) h = (two_parts (q x) (list_all q xs) h).1

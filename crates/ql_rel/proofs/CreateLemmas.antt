@@ -28,11 +28,11 @@ use Rattle.ql_rel.proofs.Fits.{then_ok}
 use Rattle.ql_rel.proofs.MadeLemmas.{NameOf, plus, made_plus, two_parts, both_parts}
 use Rattle.ql_rel.proofs.NameLemmas.{or_parts, map_placed}
 
-not_refused : (b : Bool) (r : Refusal) (u : Unit {0}) → ◌≡◌ {A = Answer (Unit {0})} (if b then Err r else Ok tt) (Ok u) → b ≡ false
+pub not_refused : (b : Bool) (r : Refusal) (u : Unit {0}) → ◌≡◌ {A = Answer (Unit {0})} (if b then Err r else Ok tt) (Ok u) → b ≡ false
 not_refused true r u e = absurd (cc)
 not_refused false r u e = refl
 
-is_allowed : (b : Bool) (r : Refusal) (u : Unit {0}) → ◌≡◌ {A = Answer (Unit {0})} (if b then Ok tt else Err r) (Ok u) → b ≡ true
+pub is_allowed : (b : Bool) (r : Refusal) (u : Unit {0}) → ◌≡◌ {A = Answer (Unit {0})} (if b then Ok tt else Err r) (Ok u) → b ≡ true
 is_allowed true r u e = refl
 is_allowed false r u e = absurd (cc)
 
