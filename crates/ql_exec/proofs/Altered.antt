@@ -1,10 +1,11 @@
 -- A table that gets or loses a column on a relation.
-use Rattle.std.proofs.Common.{◌≡◌, ℕ, suc, ◌<◌, ◌≤◌, ◌^◌, Bool, true, false, ◌||◌, nat_lt, if◌then◌else◌, List, [], ◌∷◌, length, slice_get, Option, Some, None, option_map, IfSome, Result, Ok, Err, refl, sym, ap, subst, ◌∙◌, arith}
+use Rattle.std.proofs.Common.{◌≡◌, ℕ, suc, ◌<◌, Bool, true, false, ◌||◌, nat_lt, if◌then◌else◌, List, [], ◌∷◌, length, slice_get, Option, Some, None, option_map, IfSome, Result, Ok, Err, refl, sym, ap, subst, ◌∙◌, arith}
 use Rattle.std.proofs.lemmas.Bool.Decides.{nat_tests}
 use Rattle.std.specs.Prelude.{IsOk}
-use Rattle.std.specs.List.{list_any, list_all, AllByRecursion}
+use Rattle.std.specs.List.{list_any, list_all}
 use Rattle.std.specs.Str.{bytes_eq}
 use Rattle.ql_syntax.specs.declared.statement.ColumnDef.{ColumnDef}
+use Rattle.ql_syntax.specs.declared.statement.Statement.{Statement}
 use Rattle.ql_syntax.specs.declared.statement.Statement.TheVariants as s
 use Rattle.ql_syntax.specs.Answers.{Answer, then_with}
 use Rattle.ql_syntax.specs.ReadsBack.{IsReadBack}
@@ -20,20 +21,23 @@ use Rattle.ql_rel.specs.Changes.{column_added, column_dropped}
 use Rattle.ql_rel.specs.CreatePlans.{no_parts, takes_all, without_conditions}
 use Rattle.ql_rel.specs.Databases.{schema_of, columns_if, columns_at, name_if, name_at}
 use Rattle.ql_rel.specs.InsertPlans.{takes_rows, without_checks}
-use Rattle.ql_rel.specs.Limits.{is_past_added, IsTableWithin, IsWithin}
+use Rattle.ql_rel.specs.Limits.{is_past_added}
 use Rattle.ql_rel.specs.Names.{has_name, column_names, is_column_taken}
 use Rattle.ql_rel.specs.NewNames.{new_name, known_table, place_named, column_place}
 use Rattle.ql_rel.specs.Refusals.{column_refusal}
 use Rattle.ql_rel.specs.Refused.{unless}
-use Rattle.ql_rel.specs.StatementEffects.{adds_column, drops_column}
+use Rattle.ql_rel.specs.StatementEffects.{adds_column, drops_column, carried}
+use Rattle.ql_rel.specs.StatementPlans.{statement_plan}
 use Rattle.ql_rel.specs.TablePlans.{free_added, added_column, add_column_plan, column_there, several_columns, dropped_column, drop_column_plan}
 use Rattle.ql_rel.specs.WellFormed.{IsMade, IsWellFormed}
 use Rattle.ql_rel.proofs.AlteredColumns.{IsAdded, added_made, dropped_made}
 use Rattle.ql_rel.proofs.CreateLemmas.{not_refused, is_allowed}
 use Rattle.ql_rel.proofs.Fits.{then_ok}
-use Rattle.ql_exec.specs.Carries.{Changes}
+use Rattle.ql_exec.specs.Carries.{Changes, Does}
+use Rattle.ql_exec.specs.Depths.{IsDeepEnough}
 use Rattle.ql_exec.specs.declared.fault.ExecFault.{ExecFault}
 use Rattle.ql_exec.proofs.AlteredRead.{wider_read, narrower_read}
+use Rattle.ql_exec.proofs.Carried.{changes_do}
 use Rattle.ql_exec.proofs.LawfulRows.{takes_these}
 use Rattle.ql_exec.proofs.Planned.{stands_at, known_is, checked_if}
 
@@ -139,21 +143,11 @@ pub within_at : (n : ℕ) (schema : Schema) (name column : List ℕ) → n ≡ p
 within_at n schema name column e d =
     subst (λ (cs : List ColumnDef). column_place column cs < length cs) (sym (columns_found n schema name d.table e d.at)) d.within
 
+pub placed_within : (k n : ℕ) (schema : Schema) (name column : List ℕ) → k ≡ column_place column (columns_at n schema) → n ≡ place_named name schema.tables → Drops schema name column → k < length (columns_at n schema)
+placed_within k n schema name column p e d = subst (λ (x : ℕ). x < length (columns_at n schema)) (sym p) (within_at n schema name column e d)
+
 pub several_at : (n : ℕ) (schema : Schema) (name column : List ℕ) → n ≡ place_named name schema.tables → Drops schema name column → 1 < length (columns_at n schema)
 several_at n schema name column e d = subst (λ (cs : List ColumnDef). 1 < length cs) (sym (columns_found n schema name d.table e d.at)) d.several
-
--- the place of a column is a small number
-
-few_columns : (n : ℕ) (tables : List TableSchema) → AllByRecursion IsTableWithin tables → length (columns_if (slice_get tables n)) ≤ 256
-few_columns n [] h = omega arith
-few_columns 0 (t ∷ tables) h = h.0.few
-few_columns (suc n) (t ∷ tables) h = few_columns n tables h.1
-
-pub small_column : (place n : ℕ) (column : List ℕ) (columns : List ColumnDef) (schema : Schema) → place ≡ column_place column columns → columns ≡ columns_at n schema → column_place column (columns_at n schema) < length (columns_at n schema) → IsWithin schema → place < 2 ^ 32
-small_column place n column columns schema p e there w =
-    let here : place ≡ column_place column (columns_at n schema) = subst (λ (cs : List ColumnDef). place ≡ column_place column cs) e p in
-    let few : length (columns_at n schema) ≤ 256 = few_columns n schema.tables w.columns in
-    omega (arith, here, few, there)
 
 -- the CREATE statements make the schema after the change
 
@@ -196,3 +190,36 @@ drop_done name column n k schema (Some d) now e p s h =
     let by : column_dropped n k d ≡ drops_column name column d =
     ap (λ (x : ℕ). column_dropped n x d) place ∙ ap (λ (x : ℕ). column_dropped x (column_place column (columns_at x (schema_of d))) d) at in
     record { after = column_dropped n k d; is = ap Ok (sym by); holds = h }
+
+-- what the parts of the statements need
+
+pub add_level : (statement : Statement) (name : List ℕ) (c : ColumnDef) (levels : ℕ) → statement ≡ s.AddColumn name c → IsDeepEnough statement levels → 0 < levels
+add_level statement name c levels i h = subst (λ (z : Statement). IsDeepEnough z levels) i h
+
+pub drop_level : (statement : Statement) (name column : List ℕ) (levels : ℕ) → statement ≡ s.DropColumn name column → IsDeepEnough statement levels → 0 < levels
+drop_level statement name column levels i h = subst (λ (z : Statement). IsDeepEnough z levels) i h
+
+ok_is : (a : Answer Plan) (p : Plan) → a ≡ Ok p → IsOk a
+ok_is a p e = rw e refl
+
+pub add_has : (schema : Schema) (statement : Statement) (name : List ℕ) (c x : ColumnDef) (p : Plan) → statement ≡ s.AddColumn name c → x ≡ c → statement_plan schema statement ≡ Ok p → IsOk (add_column_plan schema name x)
+add_has schema statement name c x p i e h =
+    subst (λ (y : ColumnDef). IsOk (add_column_plan schema name y)) (sym e) (ok_is (add_column_plan schema name c) p (subst (λ (z : Statement). statement_plan schema z ≡ Ok p) i h))
+
+pub add_read : (statement : Statement) (name : List ℕ) (c x : ColumnDef) → statement ≡ s.AddColumn name c → x ≡ c → IsReadBack statement → IsReadBack (s.AddColumn name x)
+add_read statement name c x i e r = subst (λ (y : ColumnDef). IsReadBack (s.AddColumn name y)) (sym e) (subst IsReadBack i r)
+
+pub drop_has : (schema : Schema) (statement : Statement) (name column : List ℕ) (p : Plan) → statement ≡ s.DropColumn name column → statement_plan schema statement ≡ Ok p → IsOk (drop_column_plan schema name column)
+drop_has schema statement name column p i h = ok_is (drop_column_plan schema name column) p (subst (λ (z : Statement). statement_plan schema z ≡ Ok p) i h)
+
+-- what each does is what the statement does
+
+pub add_does : {T : Type 0} (with_names : Bool) (statement : Statement) (name : List ℕ) (c x : ColumnDef) (p : Plan) (r : Result T ExecFault) (o now : Option Db) (out : List ℕ) → statement ≡ s.AddColumn name c → x ≡ c
+    → IfSome o (λ d. Changes (adds_column name x d) r now) → IfSome o (λ d. Does (carried with_names statement p d) r out out now)
+add_does with_names statement name c x p r o now out i e h =
+    subst (λ (z : Statement). IfSome o (λ d. Does (carried with_names z p d) r out out now)) (sym (i ∙ ap (s.AddColumn name) (sym e))) (changes_do (adds_column name x) r o now out h)
+
+pub drop_does : {T : Type 0} (with_names : Bool) (statement : Statement) (name column : List ℕ) (p : Plan) (r : Result T ExecFault) (o now : Option Db) (out : List ℕ) → statement ≡ s.DropColumn name column
+    → IfSome o (λ d. Changes (Ok (drops_column name column d)) r now) → IfSome o (λ d. Does (carried with_names statement p d) r out out now)
+drop_does with_names statement name column p r o now out i h =
+    subst (λ (z : Statement). IfSome o (λ d. Does (carried with_names z p d) r out out now)) (sym i) (changes_do (λ d. Ok (drops_column name column d)) r o now out h)
