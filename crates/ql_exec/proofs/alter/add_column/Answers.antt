@@ -29,10 +29,10 @@ returns-in-Ok-clause-done g c =
     adds_at {T = Unit {0}} c.args.name.now c.args.column.now c.table_named-table.result (g.R.Rel.schema c.args.rel.now) (Ok tt) _ _ c.table_named-table.ensures (g.met.R.Rel.told_schema c.args.rel.now)
     (change_done {T = Unit {0}} (column_added c.table_named-table.result c.args.column.now) (column_refusal c.table_named-table.result c.args.column.now) tt _ _ c.in-Ok.ensures.db c.in-Ok.ensures.refused)
 
-pub returns-clause-done : goal.returns-clause-done
-returns-clause-done g c =
+pub returns-in-Err-clause-done : goal.returns-in-Err-clause-done
+returns-in-Err-clause-done g c =
     rw c.fault_of_rel.ensures (adds_at {T = Unit {0}} c.args.name.now c.args.column.now c.table_named-table.result (g.R.Rel.schema c.args.rel.now) (Err (fault_of_rel c.in-Err.fault)) _ _ c.table_named-table.ensures (g.met.R.Rel.told_schema c.args.rel.now)
     (change_refused (Unit {0}) (Unit {0}) (column_added c.table_named-table.result c.args.column.now) (column_refusal c.table_named-table.result c.args.column.now) c.in-Err.fault _ _ c.in-Err.ensures.refused))
 
-pub returns-clause-cause : goal.returns-clause-cause
-returns-clause-cause g c = rw c.fault_of_rel.ensures (cause_kept (Unit {0}) (Unit {0}) _ _ c.in-Err.fault _ _ c.in-Err.ensures.cause)
+pub returns-in-Err-clause-cause : goal.returns-in-Err-clause-cause
+returns-in-Err-clause-cause g c = rw c.fault_of_rel.ensures (cause_kept (Unit {0}) (Unit {0}) _ _ c.in-Err.fault _ _ c.in-Err.ensures.cause)

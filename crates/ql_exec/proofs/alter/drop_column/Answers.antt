@@ -40,8 +40,8 @@ pub returns-in-Ok-clause-done : goal.returns-in-Ok-clause-done
 returns-in-Ok-clause-done g c =
     drop_done c.args.name.now c.args.column.now c.table_named-table.result c.column_named-place.result (g.R.Rel.schema c.args.rel.now) _ _ c.table_named-table.ensures c.column_named-place.ensures (g.met.R.Rel.told_schema c.args.rel.now) c.in-Ok.ensures.db
 
-pub returns-clause-done : goal.returns-clause-done
-returns-clause-done g c = rw c.fault_of_rel.ensures (only_trouble (Unit {0}) (Unit {0}) (drops_column c.args.name.now c.args.column.now) c.in-Err.fault _ _ c.in-Err.ensures.refused)
+pub returns-in-Err-clause-done : goal.returns-in-Err-clause-done
+returns-in-Err-clause-done g c = rw c.fault_of_rel.ensures (only_trouble (Unit {0}) (Unit {0}) (drops_column c.args.name.now c.args.column.now) c.in-Err.fault _ _ c.in-Err.ensures.refused)
 
-pub returns-clause-cause : goal.returns-clause-cause
-returns-clause-cause g c = rw c.fault_of_rel.ensures (cause_kept (Unit {0}) (Unit {0}) _ _ c.in-Err.fault _ _ c.in-Err.ensures.cause)
+pub returns-in-Err-clause-cause : goal.returns-in-Err-clause-cause
+returns-in-Err-clause-cause g c = rw c.fault_of_rel.ensures (cause_kept (Unit {0}) (Unit {0}) _ _ c.in-Err.fault _ _ c.in-Err.ensures.cause)
