@@ -1,5 +1,5 @@
-"""What statements do to tables, a second time: CREATE TABLE, INSERT of rows, UPDATE, DELETE, TRUNCATE and DROP TABLE over
-columns of int64, and SELECT of fields over one table.
+"""What statements do to tables, a second time: CREATE TABLE, ALTER TABLE, INSERT of rows, UPDATE, DELETE, TRUNCATE and DROP
+TABLE over columns of int64, and SELECT of fields over one table.
 
 An expression is a pair: its text, and a function of a row (a dict of names, with "id()") that gives its value, None for NULL,
 or raises `Refused`. It is written from docs/LANGUAGE.md and not from the program.
@@ -121,6 +121,24 @@ class Tables:
                 new = [(columns.index(column), part(row)) for column, part in sets]
                 held[id] = [dict(new).get(at, value) for at, value in enumerate(values)]
 
+    def add(self, name, column):
+        """A column more, NULL in each row."""
+        columns, held = self.table(name)
+        if column in columns:
+            raise Refused(f"4 Exists {column}")
+        self.tables[name] = ([*columns, column], {id: [*values, None] for id, values in held.items()})
+
+    def lose(self, name, column):
+        """A column less, with its values."""
+        columns, held = self.table(name)
+        if column not in columns:
+            raise Refused(f"2 NoColumn {column}")
+        if len(columns) == 1:
+            raise Refused("6 Count")
+        at = columns.index(column)
+        rows = {id: values[:at] + values[at + 1 :] for id, values in held.items()}
+        self.tables[name] = (columns[:at] + columns[at + 1 :], rows)
+
     def truncate(self, name):
         self.table(name)[1].clear()
 
@@ -206,4 +224,11 @@ class Script:
             quiet = source.random() < 0.5
             name = source.choice("tuvw") if quiet else name
             return f"DROP TABLE {'IF EXISTS ' if quiet else ''}{name}", lambda: tables.drop(name, quiet)
+        if choice < 0.88:
+            free = [each for each in "abcd" if each not in columns]
+            column = source.choice(free) if free and source.random() < 0.95 else source.choice("abcd")
+            return f"ALTER TABLE {name} ADD {column} int64", lambda: tables.add(name, column)
+        if choice < 0.91 and (len(columns) > 1 or source.random() < 0.1):
+            column = source.choice(columns if source.random() < 0.95 else "abcd")
+            return f"ALTER TABLE {name} DROP COLUMN {column}", lambda: tables.lose(name, column)
         return f"SELECT id(), {', '.join(columns)} FROM {name}", lambda: tables.shown(name)

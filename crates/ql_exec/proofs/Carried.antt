@@ -111,6 +111,8 @@ abbrev IsOther : Statement → Type 0
 IsOther (s.Query q) = ⊥
 IsOther (s.CreateTable quiet name columns) = ⊥
 IsOther (s.DropTable quiet name) = ⊥
+IsOther (s.AddColumn name column) = ⊥
+IsOther (s.DropColumn name column) = ⊥
 IsOther (s.Insert name names rows_of) = ⊥
 IsOther (s.Update name sets filter) = ⊥
 IsOther (s.Delete name filter) = ⊥
@@ -121,6 +123,8 @@ later : (with_names : Bool) (statement : Statement) (p : Plan) (d : Db) → IsOt
 later with_names (s.Query q) p d h = absurd h
 later with_names (s.CreateTable quiet name columns) p d h = absurd h
 later with_names (s.DropTable quiet name) p d h = absurd h
+later with_names (s.AddColumn name column) p d h = absurd h
+later with_names (s.DropColumn name column) p d h = absurd h
 later with_names (s.Insert name names rows_of) p d h = absurd h
 later with_names (s.Update name sets filter) p d h = absurd h
 later with_names (s.Delete name filter) p d h = absurd h
@@ -128,16 +132,19 @@ later with_names (s.Truncate name) p d h = absurd h
 later with_names _ p d h = refl
 
 pub is_other : (statement : Statement) → ((q : Select) → statement ≡ s.Query q → ⊥) → ((quiet : Bool) (name : List ℕ) (columns : List ColumnDef) → statement ≡ s.CreateTable quiet name columns → ⊥)
-    → ((quiet : Bool) (name : List ℕ) → statement ≡ s.DropTable quiet name → ⊥) → ((name : List ℕ) (names : List (List ℕ)) (rows_of : RowSource) → statement ≡ s.Insert name names rows_of → ⊥)
+    → ((quiet : Bool) (name : List ℕ) → statement ≡ s.DropTable quiet name → ⊥)
+    → ((name : List ℕ) (column : ColumnDef) → statement ≡ s.AddColumn name column → ⊥) → ((name column : List ℕ) → statement ≡ s.DropColumn name column → ⊥) → ((name : List ℕ) (names : List (List ℕ)) (rows_of : RowSource) → statement ≡ s.Insert name names rows_of → ⊥)
     → ((name : List ℕ) (sets : List Assign) (filter : Option Expr) → statement ≡ s.Update name sets filter → ⊥) → ((name : List ℕ) (filter : Option Expr) → statement ≡ s.Delete name filter → ⊥) → ((name : List ℕ) → statement ≡ s.Truncate name → ⊥) → IsOther statement
-is_other (s.Query q) no_query no_create no_drop no_insert no_update no_delete no_truncate = absurd (no_query q refl)
-is_other (s.CreateTable quiet name columns) no_query no_create no_drop no_insert no_update no_delete no_truncate = absurd (no_create quiet name columns refl)
-is_other (s.DropTable quiet name) no_query no_create no_drop no_insert no_update no_delete no_truncate = absurd (no_drop quiet name refl)
-is_other (s.Insert name names rows_of) no_query no_create no_drop no_insert no_update no_delete no_truncate = absurd (no_insert name names rows_of refl)
-is_other (s.Update name sets filter) no_query no_create no_drop no_insert no_update no_delete no_truncate = absurd (no_update name sets filter refl)
-is_other (s.Delete name filter) no_query no_create no_drop no_insert no_update no_delete no_truncate = absurd (no_delete name filter refl)
-is_other (s.Truncate name) no_query no_create no_drop no_insert no_update no_delete no_truncate = absurd (no_truncate name refl)
-is_other _ no_query no_create no_drop no_insert no_update no_delete no_truncate = tt
+is_other (s.Query q) no_query no_create no_drop no_add no_less no_insert no_update no_delete no_truncate = absurd (no_query q refl)
+is_other (s.CreateTable quiet name columns) no_query no_create no_drop no_add no_less no_insert no_update no_delete no_truncate = absurd (no_create quiet name columns refl)
+is_other (s.DropTable quiet name) no_query no_create no_drop no_add no_less no_insert no_update no_delete no_truncate = absurd (no_drop quiet name refl)
+is_other (s.AddColumn name column) no_query no_create no_drop no_add no_less no_insert no_update no_delete no_truncate = absurd (no_add name column refl)
+is_other (s.DropColumn name column) no_query no_create no_drop no_add no_less no_insert no_update no_delete no_truncate = absurd (no_less name column refl)
+is_other (s.Insert name names rows_of) no_query no_create no_drop no_add no_less no_insert no_update no_delete no_truncate = absurd (no_insert name names rows_of refl)
+is_other (s.Update name sets filter) no_query no_create no_drop no_add no_less no_insert no_update no_delete no_truncate = absurd (no_update name sets filter refl)
+is_other (s.Delete name filter) no_query no_create no_drop no_add no_less no_insert no_update no_delete no_truncate = absurd (no_delete name filter refl)
+is_other (s.Truncate name) no_query no_create no_drop no_add no_less no_insert no_update no_delete no_truncate = absurd (no_truncate name refl)
+is_other _ no_query no_create no_drop no_add no_less no_insert no_update no_delete no_truncate = tt
 
 pub others_do : (T : Type 0) (with_names : Bool) (statement : Statement) (p : Plan) (f : ExecFault) (o now : Option Db) (before new : List ℕ) → f ≡ fault.Refused (record { number = 10; name = [] }) → IsOther statement
     → IfSome o (λ d. Does {T = T} (carried with_names statement p d) (Err f) before new now)

@@ -24,4 +24,7 @@ pub mod Checked
 pub mod LawfulTables
 pub mod LawfulRows
 pub mod LawfulChanges
+pub mod AlteredRead
+pub mod Altered
+pub mod LawfulColumns
 pub mod LawfulEffects

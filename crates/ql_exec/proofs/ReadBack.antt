@@ -52,7 +52,7 @@ plain_none : (o : Option Expr) → is_none o ≡ true → plain_option o ≡ o
 plain_none None e = refl
 plain_none (Some x) e = absurd (cc)
 
-plain_same : (c : ColumnDef) → takes_all c ≡ true → plain_column c ≡ c
+pub plain_same : (c : ColumnDef) → takes_all c ≡ true → plain_column c ≡ c
 plain_same c h =
     let plain = two_parts (not c.not_null) (is_none c.rule && is_none c.default) h in
     let bare = two_parts (is_none c.rule) (is_none c.default) plain.1 in
@@ -60,7 +60,7 @@ plain_same c h =
     let with_default : Option Expr → ColumnDef = λ o. record { name = c.name; kind = c.kind; not_null = c.not_null; rule = c.rule; default = o } in
     ap with_rule (plain_none c.rule bare.0) ∙ ap with_default (plain_none c.default bare.1)
 
-plain_columns : (cs : List ColumnDef) → list_all takes_all cs ≡ true → map plain_column cs ≡ cs
+pub plain_columns : (cs : List ColumnDef) → list_all takes_all cs ≡ true → map plain_column cs ≡ cs
 plain_columns [] h = refl
 plain_columns (c ∷ cs) h =
     let both = two_parts (takes_all c) (list_all takes_all cs) h in

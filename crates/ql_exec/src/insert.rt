@@ -141,7 +141,7 @@ pub(crate) fn table_named<R: Rel>(rel: &R, name: &Name) -> u32
 }
 
 /// The columns of the table at a place.
-fn columns_of<R: Rel>(rel: &R, table: u32) -> &[ColumnDef]
+pub(crate) fn columns_of<R: Rel>(rel: &R, table: u32) -> &[ColumnDef]
     requires { table < length (R.schema rel.now).tables }
     ensures { result.now ≡ columns_at table (R.schema rel.now) }
 {

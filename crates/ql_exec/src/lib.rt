@@ -1,6 +1,7 @@
 //! Statements, carried out on any relation.
 #![tactic(auto)]
 
+mod alter;
 mod change;
 mod create;
 mod drop;
@@ -14,6 +15,7 @@ mod statement;
 mod text;
 mod values;
 
+pub use alter::{add_column, drop_column};
 pub use change::change_table;
 pub use create::create_table;
 pub use drop::{drop_table, truncate_table};

@@ -9,6 +9,7 @@ ghost use Rattle.ql_exec.specs.Carries.{Does, IsCausedExec, Leaves};
 ghost use Rattle.ql_exec.specs.Depths.{IsDeepEnough};
 
 use crate::ExecFault;
+use crate::alter::{add_column, drop_column};
 use crate::change::change_table;
 use crate::create::create_table;
 use crate::drop::{drop_table, truncate_table};
@@ -52,6 +53,8 @@ pub fn carry<R: Rel>(
             columns,
         } => create_table(alloc, rel, *quiet, table, columns),
         Statement::DropTable { quiet, table } => drop_table(alloc, rel, *quiet, table),
+        Statement::AddColumn { table, column } => add_column(alloc, rel, table, column.get()),
+        Statement::DropColumn { table, column } => drop_column(alloc, rel, table, column),
         Statement::Insert { table, source, .. } => match source.get() {
             RowSource::Rows(_) => insert_rows(alloc, rel, table, plan),
             RowSource::Query(_) => Err(refusal(alloc, LATER)),

@@ -16,8 +16,8 @@ pub mod FormLemmas
 mod NameLemmas
 mod AcceptLemmas
 mod TableForms
-mod ColumnForms
-mod NarrowForms
+pub mod ColumnForms
+pub mod NarrowForms
 mod TextLemmas
 mod EventLemmas
 mod StatementExamples
@@ -27,4 +27,6 @@ pub mod InsertSelects
 pub mod ChangeFits
 pub mod MadeLemmas
 pub mod CreateLemmas
+pub mod AlteredLemmas
+pub mod AlteredColumns
 pub mod Gathered

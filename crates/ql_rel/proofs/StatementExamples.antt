@@ -110,6 +110,15 @@ idle_drop = refl
 drop_nowhere : statement_plan ix (s.DropTable false (codes "ix")) ≡ refused_at 1 (codes "ix")
 drop_nowhere = refl
 
+-- ALTER TABLE: a column more, NULL in each row, and a column less
+column_more : statement_effect false (s.AddColumn (codes "t") (column (codes "c") k.Bool)) (with_rows_of 2 (row_of 1 one ∷ []))
+    ≡ Ok ([], record { next_id = 2; tables = record { name = codes "t"; columns = t_columns ++ column (codes "c") k.Bool ∷ []; rows = row_of 1 (one ++ v.Null ∷ []) ∷ [] } ∷ []; indexes = [] })
+column_more = refl
+
+column_less : statement_effect false (s.DropColumn (codes "t") (codes "a")) (with_rows_of 2 (row_of 1 one ∷ []))
+    ≡ Ok ([], record { next_id = 2; tables = record { name = codes "t"; columns = column (codes "b") k.Text ∷ []; rows = row_of 1 (v.Text (codes "x") ∷ []) ∷ [] } ∷ []; indexes = [] })
+column_less = refl
+
 -- ALTER TABLE: the name of an index of the table; 2 before 6
 add_taken : statement_plan ix (s.AddColumn (codes "t") (column (codes "ix") k.Int8)) ≡ refused_at 4 (codes "ix")
 add_taken = refl

@@ -1,6 +1,7 @@
 -- Each part is given what it asks for, and does what the statement does.
 use Rattle.std.proofs.Common.{length, sym, ◌∙◌}
 use Rattle.ql_exec.proofs.Carried.{query_planned, create_level, create_planned, create_read, insert_level, insert_planned, insert_does, selected_later, query_does, create_does, is_other, others_do}
+use Rattle.ql_exec.proofs.Altered as altered
 use Rattle.ql_exec.proofs.Tabled.{drop_level, truncate_level, drop_planned, update_planned, delete_planned, truncate_planned, drop_does, truncate_does}
 use Rattle.ql_exec.proofs.statement.carry.Goals as goal
 
@@ -27,6 +28,32 @@ create_table-requires-clause-read g c =
 pub returns-in-CreateTable-clause-done : goal.returns-in-CreateTable-clause-done
 returns-in-CreateTable-clause-done g c =
     create_does c.args.with_names c.args.statement.now c.in-CreateTable.quiet c.in-CreateTable.table c.in-CreateTable.columns c.args.plan.now _ _ _ _ c.in-CreateTable.is c.create_table.ensures.done
+
+pub add_column-requires-clause-level : goal.add_column-requires-clause-level
+add_column-requires-clause-level g c = altered.add_level c.args.statement.now c.in-AddColumn.table c.in-AddColumn.column (length (g.R.Rel.saved c.args.rel.now)) c.in-AddColumn.is c.requires.level
+
+pub add_column-requires-clause-plan : goal.add_column-requires-clause-plan
+add_column-requires-clause-plan g c =
+    altered.add_has (g.R.Rel.schema c.args.rel.now) c.args.statement.now c.in-AddColumn.table c.in-AddColumn.column c.get-in-AddColumn.result.now c.args.plan.now c.in-AddColumn.is c.get-in-AddColumn.ensures c.requires.plan
+
+pub add_column-requires-clause-read : goal.add_column-requires-clause-read
+add_column-requires-clause-read g c =
+    altered.add_read c.args.statement.now c.in-AddColumn.table c.in-AddColumn.column c.get-in-AddColumn.result.now c.in-AddColumn.is c.get-in-AddColumn.ensures c.requires.read
+
+pub returns-in-AddColumn-clause-done : goal.returns-in-AddColumn-clause-done
+returns-in-AddColumn-clause-done g c =
+    altered.add_does c.args.with_names c.args.statement.now c.in-AddColumn.table c.in-AddColumn.column c.get-in-AddColumn.result.now c.args.plan.now _ _ _ _ c.in-AddColumn.is c.get-in-AddColumn.ensures c.add_column.ensures.done
+
+pub drop_column-requires-clause-level : goal.drop_column-requires-clause-level
+drop_column-requires-clause-level g c = altered.drop_level c.args.statement.now c.in-DropColumn.table c.in-DropColumn.column (length (g.R.Rel.saved c.args.rel.now)) c.in-DropColumn.is c.requires.level
+
+pub drop_column-requires-clause-plan : goal.drop_column-requires-clause-plan
+drop_column-requires-clause-plan g c =
+    altered.drop_has (g.R.Rel.schema c.args.rel.now) c.args.statement.now c.in-DropColumn.table c.in-DropColumn.column c.args.plan.now c.in-DropColumn.is c.requires.plan
+
+pub returns-in-DropColumn-clause-done : goal.returns-in-DropColumn-clause-done
+returns-in-DropColumn-clause-done g c =
+    altered.drop_does c.args.with_names c.args.statement.now c.in-DropColumn.table c.in-DropColumn.column c.args.plan.now _ _ _ _ c.in-DropColumn.is c.drop_column.ensures.done
 
 pub insert_rows-requires-clause-level : goal.insert_rows-requires-clause-level
 insert_rows-requires-clause-level g c =
@@ -88,4 +115,4 @@ returns-in-Truncate-clause-done g c =
 pub returns-in_default-clause-done : goal.returns-in_default-clause-done
 returns-in_default-clause-done g c =
     others_do (Unit {0}) c.args.with_names c.args.statement.now c.args.plan.now c.refusal-in_default.result _ _ _ _ c.refusal-in_default.ensures
-    (is_other c.args.statement.now c.in_default.not-Query c.in_default.not-CreateTable c.in_default.not-DropTable c.in_default.not-Insert c.in_default.not-Update c.in_default.not-Delete c.in_default.not-Truncate)
+    (is_other c.args.statement.now c.in_default.not-Query c.in_default.not-CreateTable c.in_default.not-DropTable c.in_default.not-AddColumn c.in_default.not-DropColumn c.in_default.not-Insert c.in_default.not-Update c.in_default.not-Delete c.in_default.not-Truncate)
