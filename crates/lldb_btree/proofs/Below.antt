@@ -1,5 +1,5 @@
 -- One level of a set, by what was read of its node.
-use Rattle.std.proofs.Common.{◌≡◌, ⊎_elim, ℕ, zero, suc, ◌+◌, ◌-◌, ◌<◌, ◌≤◌, Bool, true, false, List, [], ◌∷◌, ◌++◌, length, map, Option, Some, Result, Ok, Err, IfOk, refl, sym, ap, ap₂, ◌∙◌, arith, length-append, append-nil}
+use Rattle.std.proofs.Common.{◌≡◌, ⊎_elim, ℕ, zero, suc, ◌+◌, ◌-◌, ◌*◌, ◌<◌, ◌≤◌, Bool, true, false, List, [], ◌∷◌, ◌++◌, length, map, Option, Some, Result, Ok, Err, IfOk, refl, sym, ap, ap₂, ◌∙◌, arith, length-append, append-nil}
 use Rattle.std.specs.List.{AllByRecursion}
 use Rattle.std.specs.Int.{to_be_bytes, w64}
 use Rattle.std.proofs.lemmas.List.{map-append, append_cancel_right}
@@ -16,7 +16,7 @@ use Rattle.lldb_btree.specs.Footprints.{times}
 use Rattle.lldb_btree.specs.Nodes.{Entry, is_leaf, entries, body, spelling, pair_entry, child_entry, FitsChild}
 use Rattle.lldb_btree.specs.Pairs.{FitsPair, Rises, keys_of, insert}
 use Rattle.lldb_btree.specs.Reading.{mark}
-use Rattle.lldb_btree.specs.Splicing.{AreNode, IsWay}
+use Rattle.lldb_btree.specs.Splicing.{AddsNodes, AreNode, IsWay}
 use Rattle.lldb_btree.specs.Trees.{Part, greatest, child_of, pairs_of, footprint_of, IsNode, IsOver}
 use Rattle.lldb_btree.proofs.Ahead.{ahead_falls, none_pass, rises_left, rises_right}
 use Rattle.lldb_btree.proofs.Edited.{times_append}
@@ -227,6 +227,12 @@ pub below_reads : (told read : Option Contents) (handle room n : ℕ) (k front b
 below_reads told read handle room n k front back child go before mid after step next m d least p e =
     let g = go m d least p e in
     omega (arith, g.one_more, step, next m g.low 16 g.q g.edit)
+
+-- below the child two nodes less were added, and the child became two at most
+pub below_grows : (told read : Option Contents) (handle room n : ℕ) (k front back : List ℕ) (child : ℕ) → AllGo told read handle room n k front back child → (before mid below after : ℕ) → mid ≡ before → after ≤ below + 2 * 35952 → ((m : Contents) (d least : ℕ) (p : Part) → CanEdit read m d least p child (room - 1) → AddsNodes (2 * d) mid below) → (m : Contents) (d least : ℕ) (p : Part) → CanEdit told m d least p handle room → AddsNodes (2 * d) before after
+below_grows told read handle room n k front back child go before mid below after same last next m d least p e =
+    let g = go m d least p e in
+    omega (arith, g.one_more, same, last, next m g.low 16 g.q g.edit)
 
 -- what can be stored of the child
 storable : (read now : Option Contents) (m : Contents) (d child room : ℕ) (q : Part) (k v node : List ℕ) → length k ≤ 1100 → length v ≤ 16 → CanEdit read m d 16 q child room → (i : IsEdited now m d 16 q (insert k v q.pairs) node) → CanStore now i.new d child node (insert k v q.pairs) i.lifts.under

@@ -1,11 +1,11 @@
 //! Trees.
-ghost use Rattle.std.specs.Prelude.{◌≡◌, ℕ, ◌+◌, ◌≤◌, List, [], length, Some, IsTrue, IfOk, OnOk, OnErr, true, false};
+ghost use Rattle.std.specs.Prelude.{◌≡◌, ℕ, ◌+◌, ◌*◌, ◌≤◌, List, [], length, Some, IsTrue, IfOk, OnOk, OnErr, true, false};
 ghost use Rattle.lldb_base.specs.Contents.{Contents, atoms_for};
-ghost use Rattle.lldb_base.specs.Heaps.{IsFull};
+ghost use Rattle.lldb_base.specs.Heaps.{IsFull, most_added};
 ghost use Rattle.lldb_base.specs.Trouble.{IsCausedTrouble, Refuses};
 ghost use Rattle.lldb_btree.specs.Frames.{KeepsContents, KeepsLevels, UnlessYes};
 ghost use Rattle.lldb_btree.specs.Pairs.{find, insert, value_in, IsFound};
-ghost use Rattle.lldb_btree.specs.Splicing.{IsFullFor};
+ghost use Rattle.lldb_btree.specs.Splicing.{AddsNodes, IsFullFor};
 ghost use Rattle.lldb_btree.specs.Trees.{IsTree, IsTold, MayBeNoTree, HoldsTree};
 ghost use Rattle.lldb_btree.specs.declared.node.Pair as pair;
 
@@ -45,6 +45,8 @@ impl Tree {
         ensures ready { OnOk result (H.is_ready heap.new ≡ true) }
         ensures refuses { Refuses (IsFull (atoms_for 2) (H.most_free heap.old) (H.size_of heap.old)
             (H.size_of heap.new) (H.limit_of heap.old)) (H.map_of heap.old ≡ None) result }
+        ensures grows { H.size_of heap.new ≤ H.size_of heap.old + most_added (atoms_for 2)
+            (H.size_of heap.old) }
         ensures reads { H.reads_of heap.new ≡ H.reads_of heap.old }
         ensures frame { KeepsLevels H.saved H.saved_sizes H.limit_of H.is_sound H.told H.left
             H.fixed heap.old heap.new }
@@ -110,6 +112,10 @@ impl Tree {
         ensures ready { OnOk result (H.is_ready heap.new ≡ true) }
         ensures refuses { Refuses (IsFullFor (H.limit_of heap.old) (H.size_of heap.new))
             (MayBeNoTree self.now.handle (H.map_of heap.old)) result }
+        ensures most { AddsNodes 37 (H.size_of heap.old) (H.size_of heap.new) }
+        ensures grows { (levels : ℕ) (pairs : List pair.Pair) (footprint : List ℕ) → IsTold
+            (H.map_of heap.old) self.now.handle levels pairs footprint → AddsNodes (2 * levels + 1)
+            (H.size_of heap.old) (H.size_of heap.new) }
         ensures reads { (levels : ℕ) (pairs : List pair.Pair) (footprint : List ℕ) → IsTold
             (H.map_of heap.old) self.now.handle levels pairs footprint → H.reads_of heap.new
             ≤ H.reads_of heap.old + levels }

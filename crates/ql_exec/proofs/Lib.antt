@@ -8,7 +8,6 @@ pub mod Fitted
 pub mod Small
 pub mod ReadBack
 pub mod Created
-pub mod Rowed
 pub mod Lined
 pub mod Planned
 pub mod Sourced
@@ -20,6 +19,8 @@ pub mod Shown
 pub mod Exits
 pub mod Rounds
 pub mod Assigned
+pub mod NewRows
+pub mod Rowed
 pub mod Dropped
 pub mod Carried
 pub mod Tabled

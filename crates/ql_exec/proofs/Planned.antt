@@ -7,6 +7,7 @@ use Rattle.ql_value.specs.declared.refusal.Refusal.{Refusal}
 use Rattle.ql_value.specs.declared.value.Kind.TheVariants as k
 use Rattle.ql_syntax.specs.declared.statement.ColumnDef.{ColumnDef}
 use Rattle.ql_syntax.specs.declared.statement.RowSource.TheVariants as source
+use Rattle.ql_syntax.specs.declared.statement.Statement.TheVariants as s
 use Rattle.ql_syntax.specs.declared.syntax.Expr.{Expr}
 use Rattle.ql_syntax.specs.declared.syntax.Expr.TheOpen.{SetSource-F}
 use Rattle.ql_syntax.specs.declared.syntax.Field.{Field}
@@ -22,18 +23,17 @@ use Rattle.ql_rel.specs.declared.plan.Plan.{Plan}
 use Rattle.ql_rel.specs.declared.schema.Schema.{Schema}
 use Rattle.ql_rel.specs.declared.schema.TableSchema.{TableSchema}
 use Rattle.ql_syntax.specs.declared.scope.Slot.{Slot}
-use Rattle.ql_syntax.specs.Answers.{Answer, then_with, all_of}
+use Rattle.ql_syntax.specs.Answers.{Answer, then_with}
 use Rattle.ql_rel.specs.CreatePlans.{takes_all}
 use Rattle.ql_rel.specs.Databases.{columns_if, columns_at}
-use Rattle.ql_rel.specs.InsertPlans.{takes_rows, without_checks, value_row, rows_plan, source_plan, insert_plan}
-use Rattle.ql_rel.specs.InsertTypes.{RowsTyped}
+use Rattle.ql_rel.specs.InsertPlans.{takes_rows, without_checks, source_plan, insert_plan}
 use Rattle.ql_rel.specs.Limits.{IsWithin}
 use Rattle.ql_rel.specs.NewNames.{table_there, known_table, place_named}
-use Rattle.ql_rel.specs.PlanTypes.{slot_types, types_if}
+use Rattle.ql_rel.specs.PlanTypes.{slot_types, types_if, columns_named, ValuesTyped}
 use Rattle.ql_rel.specs.Plans.{table_named, is_metadata, set_name, column_slots, add_table, add_source, add_set, add_sets, select_plan}
-use Rattle.ql_rel.specs.Targets.{all_targets, targets_of}
+use Rattle.ql_rel.specs.Targets.{targets_of}
+use Rattle.ql_rel.proofs.ChangeFits.{known_columns, statement_typed}
 use Rattle.ql_rel.proofs.Fits.{then_ok, same_ok}
-use Rattle.ql_rel.proofs.InsertFits.{whole_rows}
 use Rattle.ql_exec.specs.Scans.{table_types}
 use Rattle.ql_exec.proofs.LawfulRows.{TakesRows, takes_these}
 
@@ -62,31 +62,29 @@ known_if false r name o t e = there_is name o t e
 pub known_is : (name : List ℕ) (schema : Schema) (t : TableSchema) → known_table name schema ≡ Ok t → table_named name schema.tables ≡ Some t
 known_is name schema t e = known_if (is_metadata name) (record { number = 9; name = name }) name (table_named name schema.tables) t e
 
--- what the plan of an INSERT of rows for all columns says: its table is there, and its rows have the columns' kinds
+-- what the plan of an INSERT of rows says: its table is there, and its rows have values for the columns
 pub record Inserts (schema : Schema) (name : List ℕ) (p : Plan) : Type 0 where
   pub there : place_named name schema.tables < length schema.tables
-  pub typed : RowsTyped (columns_at (place_named name schema.tables) schema) p.rows
+  pub typed : ValuesTyped (columns_at (place_named name schema.tables) schema) p
   pub takes : TakesRows (place_named name schema.tables) schema
 
 pub checked_if : (b : Bool) (r : Refusal) (u : Unit {0}) → ◌≡◌ {A = Answer (Unit {0})} (if b then Ok tt else Err r) (Ok u) → b ≡ true
 checked_if true r u e = refl
 checked_if false r u e = absurd (cc)
 
-pub insert_says : (schema : Schema) (name : List ℕ) (exprs : List (List Expr)) (p : Plan) → insert_plan schema name [] (source.Rows exprs) ≡ Ok p → Inserts schema name p
-insert_says schema name exprs p e =
-    let a = then_ok (known_table name schema) (λ table. then_with (targets_of table.columns []) (λ targets. then_with (without_checks schema table.columns) (λ _. source_plan schema targets (source.Rows exprs)))) p e in
-    let targets = all_targets 0 a.0.columns in
-    let c = then_ok (without_checks schema a.0.columns) (λ _. source_plan schema targets (source.Rows exprs)) p a.2 in
-    let d = then_ok (all_of (map (value_row targets) exprs)) (λ rows. Ok (rows_plan targets rows)) p c.2 in
+pub insert_says : (schema : Schema) (name : List ℕ) (names : List (List ℕ)) (exprs : List (List Expr)) (p : Plan) → insert_plan schema name names (source.Rows exprs) ≡ Ok p → Inserts schema name p
+insert_says schema name names exprs p e =
+    let a = then_ok (known_table name schema) (λ table. then_with (targets_of table.columns names) (λ targets. then_with (without_checks schema table.columns) (λ _. source_plan schema targets (source.Rows exprs)))) p e in
+    let b = then_ok (targets_of a.0.columns names) (λ targets. then_with (without_checks schema a.0.columns) (λ _. source_plan schema targets (source.Rows exprs))) p a.2 in
+    let c = then_ok (without_checks schema a.0.columns) (λ _. source_plan schema b.0 (source.Rows exprs)) p b.2 in
     let known = known_is name schema a.0 a.1 in
-    let plain : RowsTyped a.0.columns d.0 = whole_rows a.0.columns exprs d.0 d.1 in
-    let here : RowsTyped a.0.columns p.rows = subst (λ (q : Plan). RowsTyped a.0.columns q.rows) (same_ok (rows_plan targets d.0) p d.2) plain in
     let there = (stands_at name schema.tables a.0 known).0 in
     let columns = columns_there name schema a.0 known in
+    let typed : ValuesTyped (columns_named name schema) p = statement_typed schema (s.Insert name names (source.Rows exprs)) p e in
     let test = takes_these schema a.0.columns (checked_if (takes_rows schema a.0.columns) (record { number = 10; name = [] }) c.0 c.1) in
     record {
       there = there;
-      typed = subst (λ (cs : List ColumnDef). RowsTyped cs p.rows) (sym columns) here;
+      typed = subst (λ (cs : List ColumnDef). ValuesTyped cs p) (known_columns name schema a.0 a.1 ∙ sym columns) typed;
       takes = record { there = there; takes = subst (λ (cs : List ColumnDef). list_all takes_all cs ≡ true) (sym columns) test.1; loose = test.0 };
     }
 

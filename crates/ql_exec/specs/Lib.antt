@@ -6,4 +6,3 @@ pub mod Windows
 pub mod RowChanges
 pub mod Depths
 pub mod EffectLaws
-pub mod WholeRows

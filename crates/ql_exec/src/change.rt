@@ -29,7 +29,7 @@ use ql_value::{Value, Values};
 use std::alloc::Global;
 
 /// Puts new values at some places of a row, whose first value is its id.
-fn assign(targets: &[u64], new: Values, row: &mut Vec<Value>)
+pub(crate) fn assign(targets: &[u64], new: Values, row: &mut Vec<Value>)
     requires places { All (λ at. at + 1 < length row.old.items) targets.now }
     requires each { length new ≡ length targets.now }
     ensures { drop 1 row.new.items ≡ spec.with_new targets.now new (drop 1 row.old.items) }
@@ -42,7 +42,7 @@ fn assign(targets: &[u64], new: Values, row: &mut Vec<Value>)
 }
 
 /// The values of a row without the id before them.
-fn without_id(alloc: Global, row: Vec<Value>) -> Result<Values, NoMemory>
+pub(crate) fn without_id(alloc: Global, row: Vec<Value>) -> Result<Values, NoMemory>
     ensures { IfOk result (λ values. values ≡ drop 1 row.items) }
 {
     let mut values = Values::with_capacity(alloc, row.len())?;

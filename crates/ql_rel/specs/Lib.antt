@@ -19,7 +19,6 @@ pub mod NewNames
 pub mod CreatePlans
 pub mod Targets
 pub mod InsertPlans
-pub mod InsertTypes
 pub mod TablePlans
 pub mod ChangePlans
 pub mod StatementPlans
@@ -27,6 +26,7 @@ pub mod RowLists
 pub mod SelectRows
 pub mod Refused
 pub mod ChangeEffects
+pub mod InsertEffects
 pub mod StatementEffects
 pub mod Events
 pub mod Courses

@@ -6,8 +6,8 @@ use ql_value::Values;
 
 /// What stands before the fields of a SELECT.
 #[derive(Drop)]
-pub struct Source {
-    pub row: Scope,
+pub struct Source<'a> {
+    pub row: Scope<'a>,
     /// The condition of WHERE.
     pub filter: Option<Typed>,
     /// The expressions of GROUP BY.

@@ -1,6 +1,6 @@
 -- Each part is given what it asks for, and does what the statement does.
 use Rattle.std.proofs.Common.{length, sym, ◌∙◌}
-use Rattle.ql_exec.proofs.Carried.{query_planned, loud, quiet_does, create_level, create_planned, create_read, insert_level, insert_planned, query_does, create_does, is_other, others_do}
+use Rattle.ql_exec.proofs.Carried.{query_planned, create_level, create_planned, create_read, insert_level, insert_planned, insert_does, selected_later, query_does, create_does, is_other, others_do}
 use Rattle.ql_exec.proofs.Tabled.{drop_level, truncate_level, drop_planned, update_planned, delete_planned, truncate_planned, drop_does, truncate_does}
 use Rattle.ql_exec.proofs.statement.carry.Goals as goal
 
@@ -14,23 +14,19 @@ returns-in-Query-clause-done g c =
 
 pub create_table-requires-clause-level : goal.create_table-requires-clause-level
 create_table-requires-clause-level g c =
-    create_level c.args.statement.now c.in-CreateTable.table c.in-CreateTable.columns (length (g.R.Rel.saved c.args.rel.now)) (loud c.args.statement.now c.in-CreateTable.quiet c.in-CreateTable.table c.in-CreateTable.columns c.if-quiet.false c.in-CreateTable.is) c.requires.level
+    create_level c.args.statement.now c.in-CreateTable.quiet c.in-CreateTable.table c.in-CreateTable.columns (length (g.R.Rel.saved c.args.rel.now)) c.in-CreateTable.is c.requires.level
 
 pub create_table-requires-clause-plan : goal.create_table-requires-clause-plan
 create_table-requires-clause-plan g c =
-    create_planned (g.R.Rel.schema c.args.rel.now) c.args.statement.now c.in-CreateTable.table c.in-CreateTable.columns c.args.plan.now (loud c.args.statement.now c.in-CreateTable.quiet c.in-CreateTable.table c.in-CreateTable.columns c.if-quiet.false c.in-CreateTable.is) c.requires.plan
+    create_planned (g.R.Rel.schema c.args.rel.now) c.args.statement.now c.in-CreateTable.quiet c.in-CreateTable.table c.in-CreateTable.columns c.args.plan.now c.in-CreateTable.is c.requires.plan
 
 pub create_table-requires-clause-read : goal.create_table-requires-clause-read
 create_table-requires-clause-read g c =
-    create_read c.args.statement.now c.in-CreateTable.table c.in-CreateTable.columns (loud c.args.statement.now c.in-CreateTable.quiet c.in-CreateTable.table c.in-CreateTable.columns c.if-quiet.false c.in-CreateTable.is) c.requires.read
+    create_read c.args.statement.now c.in-CreateTable.quiet c.in-CreateTable.table c.in-CreateTable.columns c.in-CreateTable.is c.requires.read
 
-pub returns-then-quiet-clause-done : goal.returns-then-quiet-clause-done
-returns-then-quiet-clause-done g c =
-    quiet_does (Unit {0}) c.args.with_names c.args.statement.now c.in-CreateTable.quiet c.in-CreateTable.table c.in-CreateTable.columns c.args.plan.now c.refusal.result _ _ _ _ c.refusal.ensures c.if-quiet.true c.in-CreateTable.is
-
-pub returns-else-quiet-clause-done : goal.returns-else-quiet-clause-done
-returns-else-quiet-clause-done g c =
-    create_does c.args.with_names c.args.statement.now c.in-CreateTable.table c.in-CreateTable.columns c.args.plan.now _ _ _ _ (loud c.args.statement.now c.in-CreateTable.quiet c.in-CreateTable.table c.in-CreateTable.columns c.if-quiet.false c.in-CreateTable.is) c.create_table.ensures.done
+pub returns-in-CreateTable-clause-done : goal.returns-in-CreateTable-clause-done
+returns-in-CreateTable-clause-done g c =
+    create_does c.args.with_names c.args.statement.now c.in-CreateTable.quiet c.in-CreateTable.table c.in-CreateTable.columns c.args.plan.now _ _ _ _ c.in-CreateTable.is c.create_table.ensures.done
 
 pub insert_rows-requires-clause-level : goal.insert_rows-requires-clause-level
 insert_rows-requires-clause-level g c =
@@ -38,13 +34,18 @@ insert_rows-requires-clause-level g c =
 
 pub insert_rows-requires-clause-table : goal.insert_rows-requires-clause-table
 insert_rows-requires-clause-table g c =
-    (insert_planned (g.R.Rel.schema c.args.rel.now) c.args.statement.now c.in-Insert.table c.in-Insert.columns c.in-Insert.source c.get-in-Insert.result.now c.args.plan.now
-    c.in-Insert.is c.get-in-Insert.ensures (sym c.are_whole.ensures ∙ c.if-not-are_whole.false) c.requires.plan).there
+    (insert_planned (g.R.Rel.schema c.args.rel.now) c.args.statement.now c.in-Insert.table c.in-Insert.columns c.in-Insert.source c.get-in-Insert.result.now _ c.args.plan.now
+    c.in-Insert.is c.get-in-Insert.ensures c.in-Rows.is c.requires.plan).there
 
 pub insert_rows-requires-clause-typed : goal.insert_rows-requires-clause-typed
 insert_rows-requires-clause-typed g c =
-    (insert_planned (g.R.Rel.schema c.args.rel.now) c.args.statement.now c.in-Insert.table c.in-Insert.columns c.in-Insert.source c.get-in-Insert.result.now c.args.plan.now
-    c.in-Insert.is c.get-in-Insert.ensures (sym c.are_whole.ensures ∙ c.if-not-are_whole.false) c.requires.plan).typed
+    (insert_planned (g.R.Rel.schema c.args.rel.now) c.args.statement.now c.in-Insert.table c.in-Insert.columns c.in-Insert.source c.get-in-Insert.result.now _ c.args.plan.now
+    c.in-Insert.is c.get-in-Insert.ensures c.in-Rows.is c.requires.plan).typed
+
+pub returns-in-Rows-clause-done : goal.returns-in-Rows-clause-done
+returns-in-Rows-clause-done g c =
+    insert_does c.args.with_names c.args.statement.now c.in-Insert.table c.in-Insert.columns c.in-Insert.source c.get-in-Insert.result.now _ c.args.plan.now _ _ _ _
+    c.in-Insert.is c.get-in-Insert.ensures c.in-Rows.is c.insert_rows.ensures.done
 
 pub drop_table-requires-clause-level : goal.drop_table-requires-clause-level
 drop_table-requires-clause-level g c = drop_level c.args.statement.now c.in-DropTable.quiet c.in-DropTable.table (length (g.R.Rel.saved c.args.rel.now)) c.in-DropTable.is c.requires.level
