@@ -100,7 +100,7 @@ sets_there : (schema : Schema) (select : Select) (p : Plan) → select_plan sche
 sets_there schema select p e = sets_if schema select p (add_sets schema [] (out-Select select).sets) refl e
 
 pub sets_ok : (schema : Schema) (select : Select) (p : Plan) → select_plan schema select ≡ Ok p → IsOk (add_sets schema [] (out-Select select).sets)
-sets_ok schema select p e = let there = sets_there schema select p e in subst (λ (a : Answer (List Slot)). IsOk a) (sym there.1) tt
+sets_ok schema select p e = let there = sets_there schema select p e in subst (λ (a : Answer (List Slot)). IsOk a) (sym there.1) refl
 
 only_one : (a : Answer (List Slot)) → then_with a (λ more. Ok more) ≡ a
 only_one (Ok slots) = refl
@@ -120,14 +120,14 @@ types_of set [] = refl
 types_of set (c ∷ columns) = ap (λ (ts : List Typing). OfKind c.kind ∷ ts) (types_of set columns)
 
 stood_in : (schema : Schema) (set name : List ℕ) (o : Option TableSchema) → table_named name schema.tables ≡ o → IsOk (add_table [] set name o) → Stood schema name (add_table [] set name o)
-stood_in schema set name None e h = absurd h
+stood_in schema set name None e h = absurd (cc)
 stood_in schema set name (Some t) e h = record {
   there = (stands_at name schema.tables t e).0;
   typed = ap table_types (columns_there name schema t e) ∙ ap (λ (ts : List Typing). OfKind k.Int64 ∷ ts) (sym (types_of set t.columns));
 }
 
 stood_if : (b : Bool) (r : Refusal) (schema : Schema) (set name : List ℕ) → IsOk (if b then Err r else add_table [] set name (table_named name schema.tables)) → Stood schema name (if b then Err r else add_table [] set name (table_named name schema.tables))
-stood_if true r schema set name h = absurd h
+stood_if true r schema set name h = absurd (cc)
 stood_if false r schema set name h = stood_in schema set name (table_named name schema.tables) refl h
 
 -- a record set that is a table

@@ -54,7 +54,7 @@ later_refused fields row left r e = ap (λ (a : Answer (List (List Value))). the
 
 field_refused : (fields : List Typed) (row : List Value) (left : Answer (List (List Value))) (r : Refusal) → IsOk left → values_of row fields ≡ Err r → then_with (then_with left (λ more. Ok (row ∷ more))) (results fields) ≡ Err r
 field_refused fields row (Ok rows) r h v = ap (λ (a : Answer (List Value)). then_with (then_with a (λ values. Ok (record { source = row; values = values }))) (λ x. then_with (results fields rows) (λ xs. Ok (x ∷ xs)))) v
-field_refused fields row (Err q) r h v = absurd h
+field_refused fields row (Err q) r h v = absurd (cc)
 
 behind_by : (T : Type 0) (fields : List Typed) (row : List Value) (whole left : Answer (List (List Value))) (after : Answer (List ResultRow)) (f : ExecFault) → whole ≡ then_with left (λ more. Ok (row ∷ more)) → Passes {T = T} left (Err f)
     → Comes {A = ResultRow} (then_with whole (results fields)) (Err f) after

@@ -100,7 +100,7 @@ offset_stops T select p limit f result before now (Some d) i t l a =
 -- groups are not built yet
 grouped_by : (w : Window) (p : Plan) (meant : Answer (List (List Value))) → p.grouped ≡ true → IsOk meant → then_with meant (λ xs. then_with (results_of p xs) (result_lines w)) ≡ refused LATER
 grouped_by w p (Ok xs) g h = ap (λ (b : Bool). then_with (if b then refused LATER else results p.fields xs) (result_lines w)) g
-grouped_by w p (Err r) g h = absurd h
+grouped_by w p (Err r) g h = absurd (cc)
 
 pub groups_later : (w : Window) (p : Plan) (rows : Db → List (List Value)) (o : Option Db) → p.grouped ≡ true → IfSome o (λ d. IsOk (filtered p.filter (rows d)))
     → IfSome o (λ d. ◌≡◌ {A = Answer (List ℕ)} (then_with (filtered p.filter (rows d)) (λ meant. then_with (results_of p meant) (result_lines w))) (Err (record { number = 10; name = [] })))

@@ -1,5 +1,5 @@
 -- One row of a FROM more, and the rows behind it.
-use Rattle.std.proofs.Common.{◌≡◌, ℕ, zero, suc, ◌<◌, ◌≤◌, Bool, true, false, if◌then◌else◌, List, [], ◌∷◌, ◌++◌, map, filter, Option, Some, None, IfSome, Result, Ok, Err, refl, sym, ap, subst, ◌∙◌, arith}
+use Rattle.std.proofs.Common.{◌≡◌, ℕ, zero, suc, ◌-◌, ◌^◌, ◌<◌, ◌≤◌, Bool, true, false, if◌then◌else◌, List, [], ◌∷◌, ◌++◌, map, filter, Option, Some, None, IfSome, Result, Ok, Err, refl, sym, ap, subst, ◌∙◌, arith}
 use Rattle.std.specs.Prelude.{IsOk, IsErrAnd}
 use Rattle.ql_value.specs.declared.refusal.Refusal.{Refusal}
 use Rattle.ql_value.specs.declared.value.Value.{Value}
@@ -20,7 +20,7 @@ use Rattle.ql_syntax.specs.declared.typing.Typing.{Typing}
 use Rattle.ql_syntax.specs.Typing.{FitsRow, WellTyped, type_of}
 use Rattle.ql_rel.specs.declared.schema.Schema.{Schema}
 use Rattle.ql_rel.specs.PlanTypes.{AreTyped, IsFilter}
-use Rattle.ql_exec.specs.Turns.{rows_if, types_if, Comes, Passes}
+use Rattle.ql_exec.specs.Turns.{rows_if, types_if, Rises, Comes, Passes}
 use Rattle.ql_exec.specs.declared.fault.ExecFault.{ExecFault}
 use Rattle.ql_exec.specs.declared.fault.ExecFault.TheVariants as fault
 use Rattle.ql_exec.proofs.Lined.{rise_at, typed_each}
@@ -48,8 +48,13 @@ row_types columns x r row k e small f =
     let fits : Fits columns r.values = subst (λ (z : Option Row). IfSome z (λ r. Fits columns r.values)) k f in
     subst (λ (z : List Value). FitsRow (table_types columns) z) (sym e) (row_fits_types columns r low fits)
 
-pub row_over : (after : ℕ) (x : Option Row) (r : Row) → x ≡ Some r → IfSome x (λ r. after < r.id) → after < r.id
-row_over after x r k h = subst (λ (z : Option Row). IfSome z (λ r. after < r.id)) k h
+-- what is said where there is a row
+pub over_here : {A : Type 0} (P : Type 0) (x : Option A) (y : A) → x ≡ Some y → IfSome x (λ _. P) → P
+over_here P x y k h = subst (λ z. IfSome z (λ _. P)) k h
+
+-- fewer ids are left
+pub fewer : (before now : ℕ) → Rises before now → 2 ^ 64 - now < 2 ^ 64 - before
+fewer before now h = omega (arith, h.0, h.1)
 
 -- the one row without values, and none behind it
 pub sole_comes : (after : ℕ) (d : Db) → after ≤ 0 → ◌≡◌ {A = Answer (List (List Value))} (Ok (rows_if None after d)) (Ok ([] ∷ []))
@@ -168,7 +173,7 @@ ends_next x y whole now left (Some d) p k e g c =
 
 pub ends_last : {A : Type 0} (x : Option A) (whole now left : Db → Answer (List A)) (o p : Option Db) → ((y : A) → x ≡ Some y → ⊥) → p ≡ o → IfSome o (λ d. Ends (whole d) (now d)) → IfSome p (λ d. Comes (now d) (Ok x) (left d)) → IfSome o (λ d. IsOk (whole d))
 ends_last x whole now left None p n e g c = tt
-ends_last None whole now left (Some d) p n e g c = g.ok (subst IsOk (sym (told_back (λ d. Comes (now d) (Ok None) (left d)) (Some d) p e c)) tt)
+ends_last None whole now left (Some d) p n e g c = g.ok (subst IsOk (sym (told_back (λ d. Comes (now d) (Ok None) (left d)) (Some d) p e c)) refl)
 ends_last (Some y) whole now left (Some d) p n e g c = absurd (n y refl)
 
 ends_by : {A : Type 0} (T : Type 0) (whole now left : Answer (List A)) (f : ExecFault) → Ends whole now → Comes now (Err f) left → Passes {T = T} whole (Err f)

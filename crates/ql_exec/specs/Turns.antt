@@ -1,5 +1,5 @@
 -- The rows of a FROM, gone over one by one.
-use Rattle.std.specs.Prelude.{◌≡◌, ℕ, ◌<◌, ◌==◌, if◌then◌else◌, List, [], ◌∷◌, length, map, Option, Some, None, Result, Ok, Err, IsOk}
+use Rattle.std.specs.Prelude.{◌≡◌, ℕ, zero, suc, ◌<◌, ◌^◌, List, [], ◌∷◌, length, map, Option, Some, None, Result, Ok, Err, IsOk}
 use Rattle.std.specs.List.{filter}
 use Rattle.ql_value.specs.declared.refusal.TheConstants.{LATER}
 use Rattle.ql_value.specs.declared.value.Value.{Value}
@@ -19,7 +19,8 @@ use Rattle.ql_exec.specs.Scans.{table_types}
 
 -- the one row without values, until it was given
 abbrev pub rows_if : Option ℕ → ℕ → Db → List (List Value)
-rows_if None after d = if after == 0 then [] ∷ [] else []
+rows_if None zero d = [] ∷ []
+rows_if None (suc n) d = []
 rows_if (Some table) after d = map set_row (filter (is_after after) (rows_at table d))
 
 -- the rows that are left
@@ -35,6 +36,10 @@ types_if (Some table) schema = table_types (columns_at table schema)
 abbrev pub IsThere : Option ℕ → Schema → Type 0
 IsThere None schema = Unit {0}
 IsThere (Some table) schema = table < length schema.tables
+
+-- an id is over the one before it, and is a number of 64 bits
+abbrev pub Rises : (before now : ℕ) → Type 0
+Rises before now = (before < now) × (now < 2 ^ 64)
 
 -- the rows of a result that are left: those that a condition means, and then their fields
 abbrev pub results_left : Option Typed → List Typed → List (List Value) → Answer (List ResultRow)

@@ -52,7 +52,7 @@ pub(crate) fn count_of(alloc: Global, expr: &Option<Typed>) -> Result<Option<u12
 }
 
 /// What LIMIT and OFFSET show.
-pub(crate) fn window(limit: Option<u128>, offset: Option<u128>) -> Window
+pub(crate) fn window_of(limit: Option<u128>, offset: Option<u128>) -> Window
     ensures { (rows : List (List Value)) → windows.shown result rows ≡ lists.window offset limit rows }
 {
     Window {

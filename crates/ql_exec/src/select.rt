@@ -17,7 +17,7 @@ ghost use Rattle.ql_exec.specs.Windows.{shown_lines, result_lines, select_lines}
 use crate::ExecFault;
 use crate::fault::refusal;
 use crate::insert::table_named;
-use crate::limits::{Window, count_of, show_row, window};
+use crate::limits::{Window, count_of, show_row, window_of};
 use crate::source::{RowsLeft, next_result, pass_rows};
 use crate::text::heading;
 use ql_edge::Bytes;
@@ -157,7 +157,7 @@ fn add_shown<R: Rel>(
     let Some(mut left) = open_rows(rel, select) else {
         return Err(refusal(alloc, LATER));
     };
-    let mut window = window(limit, offset);
+    let mut window = window_of(limit, offset);
     add_result(alloc, rel, &mut left, plan, &mut window, text)
 }
 

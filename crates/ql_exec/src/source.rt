@@ -9,7 +9,7 @@ ghost use Rattle.ql_rel.specs.SelectRows as spec;
 ghost use Rattle.ql_rel.specs.WellFormed.{IsWellFormed};
 ghost use Rattle.ql_exec.specs.Carries.{IsCausedExec, IsTroubleAlone, Leaves};
 ghost use Rattle.ql_exec.specs.Scans.{table_types};
-ghost use Rattle.ql_exec.specs.Turns.{rows_if, rows_of, types_if, IsThere, results_left, Comes, Passes};
+ghost use Rattle.ql_exec.specs.Turns.{rows_if, rows_of, types_if, IsThere, Rises, results_left, Comes, Passes};
 
 use crate::ExecFault;
 use crate::query::{next_row, set_row};
@@ -33,7 +33,7 @@ fn next_sole(alloc: Global, after: &mut u64) -> Option<Values>
     ensures row { (d : Db) → Comes (Ok (rows_if None after.old d)) (Ok result)
         (Ok (rows_if None after.new d)) }
     ensures fits { IfSome result (FitsRow []) }
-    ensures over { IfSome result (λ _. after.old < after.new) }
+    ensures over { IfSome result (λ _. Rises after.old after.new) }
 {
     if *after > 0 {
         return None;
@@ -57,7 +57,7 @@ fn next_of_table<R: Rel>(
     ensures fits { IfOk result (λ row. IfSome row (FitsRow (table_types (columns_at table
         (R.schema rel.old))))) }
     ensures trouble { IsTroubleAlone result }
-    ensures over { IfOk result (λ row. IfSome row (λ _. after.old < after.new)) }
+    ensures over { IfOk result (λ row. IfSome row (λ _. Rises after.old after.new)) }
     ensures db { R.db rel.new ≡ R.db rel.old }
     ensures schema { R.schema rel.new ≡ R.schema rel.old }
     ensures ready { R.is_ready rel.new ≡ R.is_ready rel.old }
@@ -90,7 +90,7 @@ fn next_source<R: Rel>(
         (R.schema rel.old)))) }
     ensures trouble { IsTroubleAlone result }
     ensures table { left.new.table ≡ left.old.table }
-    ensures over { IfOk result (λ row. IfSome row (λ _. left.old.after < left.new.after)) }
+    ensures over { IfOk result (λ row. IfSome row (λ _. Rises left.old.after left.new.after)) }
     ensures db { R.db rel.new ≡ R.db rel.old }
     ensures schema { R.schema rel.new ≡ R.schema rel.old }
     ensures ready { R.is_ready rel.new ≡ R.is_ready rel.old }
@@ -120,7 +120,7 @@ pub(crate) fn next_meant<R: Rel>(
     ensures fits { IfOk result (λ row. IfSome row (FitsRow (types_if left.old.table
         (R.schema rel.old)))) }
     ensures table { left.new.table ≡ left.old.table }
-    ensures over { IfOk result (λ row. IfSome row (λ _. left.old.after < left.new.after)) }
+    ensures over { IfOk result (λ row. IfSome row (λ _. Rises left.old.after left.new.after)) }
     ensures db { R.db rel.new ≡ R.db rel.old }
     ensures schema { R.schema rel.new ≡ R.schema rel.old }
     ensures ready { R.is_ready rel.new ≡ R.is_ready rel.old }
@@ -179,7 +179,7 @@ pub(crate) fn next_result<R: Rel>(
         (rows_of left.old d)) result (results_left plan.now.filter plan.now.fields
         (rows_of left.new d))) }
     ensures table { left.new.table ≡ left.old.table }
-    ensures over { IfOk result (λ row. IfSome row (λ _. left.old.after < left.new.after)) }
+    ensures over { IfOk result (λ row. IfSome row (λ _. Rises left.old.after left.new.after)) }
     ensures db { R.db rel.new ≡ R.db rel.old }
     ensures schema { R.schema rel.new ≡ R.schema rel.old }
     ensures ready { R.is_ready rel.new ≡ R.is_ready rel.old }

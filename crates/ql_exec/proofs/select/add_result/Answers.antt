@@ -5,4 +5,4 @@ use Rattle.ql_exec.proofs.select.add_result.Goals as goal
 
 pub returns-clause-text : goal.returns-clause-text
 returns-clause-text g c =
-    plain_shows c.args.window.now c.args.plan.now (rows_of c.args.left.now) _ _ _ _ c.if-plan-grouped.false c.add_lines.ensures.text
+    plain_shows c.args.window.now c.args.plan.now (rows_of c.args.left.now) _ _ _ _ c.if-plan.false c.add_lines.ensures.text

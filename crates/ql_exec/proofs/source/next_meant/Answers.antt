@@ -1,7 +1,7 @@
 -- A row that WHERE does not mean, one that it means, and no row.
 use Rattle.std.proofs.Common.{refl, ◌∙◌, arith}
-use Rattle.ql_exec.specs.Turns.{rows_of}
-use Rattle.ql_exec.proofs.Turned.{same_start, meant_typed, rows_pass, row_meant, row_refused, none_meant, rows_trouble}
+use Rattle.ql_exec.specs.Turns.{rows_of, Rises}
+use Rattle.ql_exec.proofs.Turned.{same_start, meant_typed, rows_pass, over_here, fewer}
 use Rattle.ql_exec.proofs.source.next_meant.Goals as goal
 
 pub rows-init : goal.rows-init
@@ -24,9 +24,10 @@ pub rows-preserved : goal.rows-preserved
 rows-preserved g c =
     let more = c.in_ok-row.ensures.leaves in
     let kept = c.rows.invariant.leaves in
+    let over : Rises c.rows.left.after c.next_source.new.left.after = over_here _ c.in_ok-row.field-0 c.in-Some.row c.in-Some.is c.in_ok-row.ensures.over in
     record {
       goes = rows_pass c.args.filter.now c.in_ok-row.field-0 c.in-Some.row _ _ _ _ _ _ _ c.in-Some.is c.as_slice.ensures c.rows.invariant.db c.rows.invariant.goes c.in_ok-row.ensures.row c.in_ok-is_meant.ensures c.if-branch.false;
-      over = ?;
+      over = omega (arith, c.rows.invariant.over, over.0);
       table = c.in_ok-row.ensures.table ∙ c.rows.invariant.table;
       db = c.in_ok-row.ensures.db ∙ c.rows.invariant.db;
       schema = c.in_ok-row.ensures.schema ∙ c.rows.invariant.schema;
@@ -34,3 +35,8 @@ rows-preserved g c =
       leaves = (more.0 ∙ kept.0, more.1 ∙ kept.1, more.2 ∙ kept.2, more.3 ∙ kept.3, more.4 ∙ kept.4);
       faults = c.in_ok-row.ensures.cause ∙ c.rows.invariant.faults;
     }
+
+pub rows-smaller : goal.rows-smaller
+rows-smaller g c =
+    let over : Rises c.rows.left.after c.next_source.new.left.after = over_here _ c.in_ok-row.field-0 c.in-Some.row c.in-Some.is c.in_ok-row.ensures.over in
+    fewer c.rows.left.after c.next_source.new.left.after over
