@@ -1,16 +1,10 @@
 -- What an exit in the midst of a SELECT leaves, and lists of few members.
 use Rattle.std.proofs.Common.{◌≡◌, ℕ, ◌<◌, ◌≤◌, List, [], ◌∷◌, length, get_or, Option, Some, None, IfSome, Result, Ok, Err, refl, sym, ap, subst, ◌∙◌, arith}
 use Rattle.std.specs.Prelude.{IsErrAnd}
-use Rattle.lldb_base.specs.declared.trouble.Trouble.{Trouble}
-use Rattle.ql_value.specs.declared.value.Value.{Value}
-use Rattle.ql_syntax.specs.declared.syntax.FromSet.{FromSet}
-use Rattle.ql_syntax.specs.declared.typed.Typed.{Typed}
 use Rattle.ql_rel.specs.declared.db.Db.{Db}
 use Rattle.ql_syntax.specs.Answers.{Answer}
-use Rattle.ql_rel.specs.Refusals.{IsTroubleCaused}
 use Rattle.ql_exec.specs.Carries.{IsCausedExec, IsTroubleAlone}
-use Rattle.ql_exec.specs.Scans.{AddsLine, AddsText}
-use Rattle.ql_exec.specs.Selects.{select_lines}
+use Rattle.ql_exec.specs.Scans.{AddsText}
 use Rattle.ql_exec.specs.declared.fault.ExecFault.{ExecFault}
 use Rattle.ql_exec.specs.declared.fault.ExecFault.TheVariants as fault
 use Rattle.ql_exec.proofs.Added.{cause_back}
@@ -29,21 +23,6 @@ exit_caused T U limit own start held f (Ok u) before mid now i l m h c = absurd 
 exit_caused T U limit own start held f (Err g) before mid now i l m h c =
     subst (λ (z : ExecFault). IsCausedExec {T = U} limit start (Err z) before now) (sym i) (cause_back T U limit own start held f before mid now l m (λ n. sym h ∙ n) c)
 
-memory_caused : (T U : Type 0) (values : Answer (List Value)) (f : ExecFault) (old new : List ℕ) (limit : Option ℕ) (told : Option Db) (before now : ℕ) → AddsLine {T = T} values (Err f) old new → now ≡ before → IsCausedExec {T = U} limit told (Err f) before now
-memory_caused T U values (fault.Refused r) old new limit told before now l e = e
-memory_caused T U values (fault.Trouble t) old new limit told before now l e = subst (λ (z : Trouble). IsTroubleCaused limit told z before now) (sym l) e
-
--- a line that is not added leaves the count of faults
-pub line_exit : (T U : Type 0) (values : Answer (List Value)) (f : ExecFault) (result : Result U ExecFault) (old new : List ℕ) (limit : Option ℕ) (told : Option Db) (before now : ℕ) → IsErrAnd result (λ e. e ≡ f) → AddsLine {T = T} values (Err f) old new → now ≡ before
-    → IsCausedExec limit told result before now
-line_exit T U values f (Ok u) old new limit told before now i l e = absurd i
-line_exit T U values f (Err g) old new limit told before now i l e = subst (λ (z : ExecFault). IsCausedExec {T = U} limit told (Err z) before now) (sym i) (memory_caused T U values f old new limit told before now l e)
-
--- the same of a line that is all
-pub line_caused : {T : Type 0} (values : Answer (List Value)) (r : Result T ExecFault) (old new : List ℕ) (limit : Option ℕ) (told : Option Db) (n : ℕ) → AddsLine values r old new → IsCausedExec limit told r n n
-line_caused values (Ok x) old new limit told n l = refl
-line_caused {T = T} values (Err f) old new limit told n l = memory_caused T T values f old new limit told n n l refl
-
 -- a list of no member, of one, and of more
 pub none_is : {A : Type 0} (xs : List A) → length xs < 1 → xs ≡ []
 none_is [] h = refl
@@ -53,10 +32,3 @@ pub sole_is : {A : Type 0} (xs : List A) (x d : A) → 1 ≤ length xs → lengt
 sole_is [] x d l h e = absurd (omega arith)
 sole_is (y ∷ []) x d l h e = ap (λ z. z ∷ []) (sym e)
 sole_is (y ∷ z ∷ xs) x d l h e = absurd (omega arith)
-
--- several record sets come later
-pub several_later : (sets : List FromSet) (fields : List Typed) (o : Option Db) → 2 ≤ length sets → IfSome o (λ d. ◌≡◌ {A = Answer (List ℕ)} (select_lines d sets fields) (Err (record { number = 10; name = [] })))
-several_later sets fields None h = tt
-several_later [] fields (Some d) h = absurd (omega arith)
-several_later (x ∷ []) fields (Some d) h = absurd (omega arith)
-several_later (x ∷ y ∷ sets) fields (Some d) h = refl

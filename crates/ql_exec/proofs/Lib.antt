@@ -11,7 +11,11 @@ pub mod Created
 pub mod Lined
 pub mod Planned
 pub mod Sourced
+pub mod Turned
+pub mod Resulted
 pub mod Selected
+pub mod Opened
+pub mod Shown
 pub mod Exits
 pub mod Rounds
 pub mod Assigned

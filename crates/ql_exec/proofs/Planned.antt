@@ -1,6 +1,6 @@
 -- What the plans of INSERT and SELECT say of the tables that they name.
-use Rattle.std.proofs.Common.{◌≡◌, ℕ, suc, ◌<◌, ◌≤◌, ◌^◌, Bool, true, false, not, ◌&&◌, is_none, if◌then◌else◌, List, [], ◌∷◌, length, map, slice_get, Option, Some, None, Ok, Err, refl, sym, ap, subst, ◌∙◌, arith}
-use Rattle.std.specs.Prelude.{IsTrue, ◌==◌}
+use Rattle.std.proofs.Common.{◌≡◌, ℕ, suc, ◌<◌, ◌≤◌, ◌^◌, Bool, true, false, if◌then◌else◌, List, [], ◌∷◌, length, map, slice_get, Option, Some, None, Ok, Err, refl, sym, ap, subst, ◌∙◌, arith}
+use Rattle.std.specs.Prelude.{IsOk}
 use Rattle.std.specs.List.{list_all}
 use Rattle.std.specs.Str.{bytes_eq}
 use Rattle.ql_value.specs.declared.refusal.Refusal.{Refusal}
@@ -19,7 +19,6 @@ use Rattle.ql_syntax.specs.declared.syntax.SetSource.{SetSource, out-SetSource}
 use Rattle.ql_syntax.specs.declared.typed.Typed.{Typed}
 use Rattle.ql_syntax.specs.declared.typing.Typing.{Typing}
 use Rattle.ql_syntax.specs.declared.typing.Typing.TheVariants.{OfKind}
-use Rattle.ql_syntax.specs.Typing.{type_of}
 use Rattle.ql_rel.specs.declared.plan.Plan.{Plan}
 use Rattle.ql_rel.specs.declared.schema.Schema.{Schema}
 use Rattle.ql_rel.specs.declared.schema.TableSchema.{TableSchema}
@@ -30,19 +29,13 @@ use Rattle.ql_rel.specs.Databases.{columns_if, columns_at}
 use Rattle.ql_rel.specs.InsertPlans.{takes_rows, without_checks, source_plan, insert_plan}
 use Rattle.ql_rel.specs.Limits.{IsWithin}
 use Rattle.ql_rel.specs.NewNames.{table_there, known_table, place_named}
-use Rattle.ql_rel.specs.PlanTypes.{slot_types, types_if, columns_named, AreTyped, SelectTyped, ValuesTyped}
-use Rattle.ql_rel.specs.Plans.{table_named, is_metadata, set_name, column_slots, add_table, add_named, add_source, add_set, add_sets, select_plan}
-use Rattle.ql_rel.specs.SelectRows.{is_row_by_row}
+use Rattle.ql_rel.specs.PlanTypes.{slot_types, types_if, columns_named, ValuesTyped}
+use Rattle.ql_rel.specs.Plans.{table_named, is_metadata, set_name, column_slots, add_table, add_source, add_set, add_sets, select_plan}
 use Rattle.ql_rel.specs.Targets.{targets_of}
 use Rattle.ql_rel.proofs.ChangeFits.{known_columns, statement_typed}
 use Rattle.ql_rel.proofs.Fits.{then_ok, same_ok}
-use Rattle.ql_rel.proofs.MadeLemmas.{two_parts}
-use Rattle.ql_rel.proofs.SelectFits.{select_typed}
-use Rattle.ql_exec.specs.Answers.{AreTypedAt}
 use Rattle.ql_exec.specs.Scans.{table_types}
-use Rattle.ql_exec.specs.Selects.{AreTypedOver}
 use Rattle.ql_exec.proofs.LawfulRows.{TakesRows, takes_these}
-use Rattle.ql_exec.proofs.Lined.{typed_each}
 
 -- the table with a name stands at its place
 stands_if : (b : Bool) (place : ℕ) (u t : TableSchema) (tables : List TableSchema) (next : Option TableSchema) → (if b then Some u else next) ≡ Some t
@@ -95,19 +88,6 @@ insert_says schema name names exprs p e =
       takes = record { there = there; takes = subst (λ (cs : List ColumnDef). list_all takes_all cs ≡ true) (sym columns) test.1; loose = test.0 };
     }
 
-not_true : (b : Bool) → not b ≡ true → b ≡ false
-not_true true e = absurd (cc)
-not_true false e = refl
-
--- where every row gives one line there is no grouping
-not_grouped : (distinct : Bool) (p : Plan) → is_row_by_row distinct p ≡ true → p.grouped ≡ false
-not_grouped distinct p e =
-    let bare = not p.grouped && (length p.keys == 0 && (is_none p.limit && is_none p.offset)) in
-    let a = two_parts (not distinct) (is_none p.filter && bare) e in
-    let b = two_parts (is_none p.filter) bare a.1 in
-    let c = two_parts (not p.grouped) (length p.keys == 0 && (is_none p.limit && is_none p.offset)) b.1 in
-    not_true p.grouped c.0
-
 -- the record sets of a SELECT with a plan are there, and its fields have types at their rows
 plan_stops : (schema : Schema) (select : Select) (r : Refusal) → add_sets schema [] (out-Select select).sets ≡ Err r → select_plan schema select ≡ Err r
 plan_stops schema select r e = rw e refl
@@ -119,63 +99,42 @@ sets_if schema select p (Err r) e h = absurd (let no = plan_stops schema select 
 sets_there : (schema : Schema) (select : Select) (p : Plan) → select_plan schema select ≡ Ok p → (slots : List Slot) × (add_sets schema [] (out-Select select).sets ≡ Ok slots)
 sets_there schema select p e = sets_if schema select p (add_sets schema [] (out-Select select).sets) refl e
 
-fields_typed : (schema : Schema) (select : Select) (p : Plan) → select_plan schema select ≡ Ok p → IsTrue (is_row_by_row (out-Select select).distinct p) → AreTyped (type_of (types_if (add_sets schema [] (out-Select select).sets))) p.fields
-fields_typed schema select p e h =
-    let all : SelectTyped (types_if (add_sets schema [] (out-Select select).sets)) p = select_typed schema select p e in
-    all.fields (not_grouped (out-Select select).distinct p h)
+pub sets_ok : (schema : Schema) (select : Select) (p : Plan) → select_plan schema select ≡ Ok p → IsOk (add_sets schema [] (out-Select select).sets)
+sets_ok schema select p e = let there = sets_there schema select p e in subst (λ (a : Answer (List Slot)). IsOk a) (sym there.1) refl
 
--- without a record set the fields see nothing
-pub no_set : (schema : Schema) (select : Select) (p : Plan) → (out-Select select).sets ≡ [] → select_plan schema select ≡ Ok p → IsTrue (is_row_by_row (out-Select select).distinct p) → AreTypedAt [] p.fields
-no_set schema select p n e h =
-    let typed : AreTyped (type_of []) p.fields = subst (λ (sets : List FromSet). AreTyped (type_of (types_if (add_sets schema [] sets))) p.fields) n (fields_typed schema select p e h) in
-    typed_each [] [] p.fields tt typed
+only_one : (a : Answer (List Slot)) → then_with a (λ more. Ok more) ≡ a
+only_one (Ok slots) = refl
+only_one (Err r) = refl
 
-over_one : (a : Answer (List Slot)) (x : List Slot) (fields : List Typed) → then_with a (λ more. Ok more) ≡ Ok x → AreTyped (type_of (types_if (then_with a (λ more. Ok more)))) fields → AreTypedOver a fields
-over_one (Ok slots) x fields e h = h
-over_one (Err r) x fields e h = absurd (cc)
+-- the record sets of a FROM of one
+pub one_set : (schema : Schema) (sets : List FromSet) (set : FromSet) → sets ≡ set ∷ [] → add_sets schema [] sets ≡ add_set schema [] set
+one_set schema sets set e = ap (add_sets schema []) e ∙ only_one (add_set schema [] set)
 
-pub one_set : (schema : Schema) (select : Select) (set : FromSet) (p : Plan) → (out-Select select).sets ≡ set ∷ [] → select_plan schema select ≡ Ok p → IsTrue (is_row_by_row (out-Select select).distinct p) → AreTypedOver (add_set schema [] set) p.fields
-one_set schema select set p n e h =
-    let there = sets_there schema select p e in
-    let typed = subst (λ (sets : List FromSet). AreTyped (type_of (types_if (add_sets schema [] sets))) p.fields) n (fields_typed schema select p e h) in
-    let is = subst (λ (sets : List FromSet). add_sets schema [] sets ≡ Ok there.0) n there.1 in
-    over_one (add_set schema [] set) there.0 p.fields is typed
-
--- a table that fields are typed over: it is there, and they have types at its rows
-pub record Seen (schema : Schema) (name : List ℕ) (fields : List Typed) : Type 0 where
+-- a table that stands in a FROM: it is there, and its rows have these types
+pub record Stood (schema : Schema) (name : List ℕ) (slots : Answer (List Slot)) : Type 0 where
   pub there : place_named name schema.tables < length schema.tables
-  pub typed : AreTyped (type_of (table_types (columns_at (place_named name schema.tables) schema))) fields
+  pub typed : table_types (columns_at (place_named name schema.tables) schema) ≡ types_if slots
 
 pub types_of : (set : List ℕ) (columns : List ColumnDef) → slot_types (column_slots set columns) ≡ map (λ (c : ColumnDef). OfKind c.kind) columns
 types_of set [] = refl
 types_of set (c ∷ columns) = ap (λ (ts : List Typing). OfKind c.kind ∷ ts) (types_of set columns)
 
-seen_in : (schema : Schema) (set name : List ℕ) (o : Option TableSchema) (fields : List Typed) → table_named name schema.tables ≡ o → AreTypedOver (add_table [] set name o) fields → Seen schema name fields
-seen_in schema set name None fields e h = absurd h
-seen_in schema set name (Some t) fields e h =
-    let columns = columns_there name schema t e in
-    let typed : AreTyped (type_of (table_types t.columns)) fields = subst (λ (ts : List Typing). AreTyped (type_of (OfKind k.Int64 ∷ ts)) fields) (types_of set t.columns) h in
-    record {
-      there = (stands_at name schema.tables t e).0;
-      typed = subst (λ (cs : List ColumnDef). AreTyped (type_of (table_types cs)) fields) (sym columns) typed;
-    }
+stood_in : (schema : Schema) (set name : List ℕ) (o : Option TableSchema) → table_named name schema.tables ≡ o → IsOk (add_table [] set name o) → Stood schema name (add_table [] set name o)
+stood_in schema set name None e h = absurd (cc)
+stood_in schema set name (Some t) e h = record {
+  there = (stands_at name schema.tables t e).0;
+  typed = ap table_types (columns_there name schema t e) ∙ ap (λ (ts : List Typing). OfKind k.Int64 ∷ ts) (sym (types_of set t.columns));
+}
 
-seen_if : (b : Bool) (r : Refusal) (schema : Schema) (set name : List ℕ) (fields : List Typed) → AreTypedOver (if b then Err r else add_table [] set name (table_named name schema.tables)) fields → Seen schema name fields
-seen_if true r schema set name fields h = absurd h
-seen_if false r schema set name fields h = seen_in schema set name (table_named name schema.tables) fields refl h
+stood_if : (b : Bool) (r : Refusal) (schema : Schema) (set name : List ℕ) → IsOk (if b then Err r else add_table [] set name (table_named name schema.tables)) → Stood schema name (if b then Err r else add_table [] set name (table_named name schema.tables))
+stood_if true r schema set name h = absurd (cc)
+stood_if false r schema set name h = stood_in schema set name (table_named name schema.tables) refl h
 
-pub seen : (schema : Schema) (alias : Option (List ℕ)) (name : List ℕ) (fields : List Typed) → AreTypedOver (add_named schema [] alias name) fields → Seen schema name fields
-seen schema alias name fields h = seen_if (is_metadata name) (record { number = 10; name = [] }) schema (set_name alias name) name fields h
-
--- the same of a record set that is a table
-pub seen_set : (schema : Schema) (set : FromSet) (name : List ℕ) (fields : List Typed) → out-SetSource (out-FromSet set).source ≡ SetSource-F.Table name → AreTypedOver (add_set schema [] set) fields → Seen schema name fields
-seen_set schema set name fields e h =
-    seen schema (out-FromSet set).alias name fields (subst (λ (x : SetSource-F Expr SetSource Field FromSet Join Link Select). AreTypedOver (add_source schema [] (out-FromSet set).alias x) fields) e h)
-
--- the same at the place that was found
-pub seen_at : (table : ℕ) (schema : Schema) (name : List ℕ) (fields : List Typed) → table ≡ place_named name schema.tables → Seen schema name fields
-    → (table < length schema.tables) × AreTyped (type_of (table_types (columns_at table schema))) fields
-seen_at table schema name fields e h = subst (λ (p : ℕ). (p < length schema.tables) × AreTyped (type_of (table_types (columns_at p schema))) fields) (sym e) (h.there, h.typed)
+-- a record set that is a table
+pub stood_set : (schema : Schema) (set : FromSet) (name : List ℕ) → out-SetSource (out-FromSet set).source ≡ SetSource-F.Table name → IsOk (add_set schema [] set) → Stood schema name (add_set schema [] set)
+stood_set schema set name e h =
+    subst (λ (x : SetSource-F Expr SetSource Field FromSet Join Link Select). IsOk (add_source schema [] (out-FromSet set).alias x) → Stood schema name (add_source schema [] (out-FromSet set).alias x)) (sym e)
+    (stood_if (is_metadata name) (record { number = 10; name = [] }) schema (set_name (out-FromSet set).alias name) name) h
 
 -- the place of a table that is there is a small number
 pub small_place : (place : ℕ) (name : List ℕ) (tables : List TableSchema) (schema : Schema) → place ≡ place_named name tables → tables ≡ schema.tables → place_named name schema.tables < length schema.tables → IsWithin schema → place < 2 ^ 32

@@ -1,6 +1,6 @@
 //! The values of expressions.
 
-ghost use Rattle.std.specs.Prelude.{◌≡◌};
+ghost use Rattle.std.specs.Prelude.{IfSome};
 ghost use Rattle.ql_syntax.specs.Typing.{WellTyped};
 ghost use Rattle.ql_syntax.specs.Values.{value_at};
 ghost use Rattle.ql_rel.specs.Rows as spec;
@@ -24,6 +24,21 @@ pub(crate) fn value_of(alloc: Global, expr: &Typed, row: &[Value]) -> Result<Val
         Err(EvalFault::Range) => Err(refusal(alloc, RANGE)),
         Err(EvalFault::NegativeCount) => Err(refusal(alloc, NEGATIVE_COUNT)),
         Err(EvalFault::NoMemory) => Err(ExecFault::Trouble(Trouble::NoMemory)),
+    }
+}
+
+/// Whether WHERE means a row.
+pub(crate) fn is_meant(
+    alloc: Global,
+    filter: &Option<Typed>,
+    row: &[Value],
+) -> Result<bool, ExecFault>
+    requires { IfSome filter.now (WellTyped row.now) }
+    ensures { Answers (spec.is_meant filter.now row.now) result }
+{
+    match filter {
+        None => Ok(true),
+        Some(filter) => Ok(matches!(value_of(alloc, filter, row)?, Value::Bool(true))),
     }
 }
 

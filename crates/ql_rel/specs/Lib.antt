@@ -22,6 +22,7 @@ pub mod InsertPlans
 pub mod TablePlans
 pub mod ChangePlans
 pub mod StatementPlans
+pub mod RowLists
 pub mod SelectRows
 pub mod Refused
 pub mod ChangeEffects
