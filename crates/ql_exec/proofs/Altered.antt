@@ -159,7 +159,7 @@ add_made parts made schema name c n (Some d) e a r w k =
     let at : n ≡ place_named name (schema_of d).tables = subst (λ (z : Schema). n ≡ place_named name z.tables) k e in
     let found = found_at n (schema_of d) name here.table at here.at in
     λ past. added_made n c here.table d found here.added (subst (λ (cs : List ColumnDef). is_past_added c cs ≡ false) (columns_found n (schema_of d) name here.table at here.at) past)
-        (wider_read parts made name c here.table here.added.plain here.added.plains r) w.made
+    (wider_read parts made name c here.table here.added.plain here.added.plains r) w.made
 
 pub drop_made : PartsReadBack → MadeReadBack → (schema : Schema) (name column : List ℕ) (n k : ℕ) (o : Option Db) → n ≡ place_named name schema.tables → k ≡ column_place column (columns_at n schema) → Drops schema name column → IfSome o IsWellFormed → IfSome o (λ d. schema ≡ schema_of d)
     → IfSome o (λ d. IsMade (schema_of (column_dropped n k d)))
