@@ -11,7 +11,6 @@ use Rattle.ql_syntax.specs.Answers.{Answer, then_with}
 use Rattle.ql_syntax.specs.ReadsBack.{IsReadBack}
 use Rattle.ql_syntax.specs.StoredParts.{MadeReadBack, PartsReadBack}
 use Rattle.ql_rel.specs.declared.db.Db.{Db}
-use Rattle.ql_rel.specs.declared.fault.RelFault.{RelFault}
 use Rattle.ql_rel.specs.declared.plan.Plan.{Plan}
 use Rattle.ql_rel.specs.declared.schema.Index.{Index}
 use Rattle.ql_rel.specs.declared.schema.Schema.{Schema}

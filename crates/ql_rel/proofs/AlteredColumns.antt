@@ -1,5 +1,5 @@
 -- A table with a column more or less, whose columns take every value, leaves a schema that its CREATE statements make.
-use Rattle.std.proofs.Common.{◌≡◌, ℕ, zero, suc, ◌+◌, ◌<◌, ◌≤◌, Bool, true, false, cond, not, ◌&&◌, ◌||◌, nat_lt, nat_le, List, [], ◌∷◌, ◌++◌, length, map, filter, remove, slice_get, Option, Some, refl, sym, ap, subst, ◌∙◌, arith, length-append}
+use Rattle.std.proofs.Common.{◌≡◌, ℕ, zero, suc, ◌+◌, ◌<◌, ◌≤◌, Bool, true, false, not, ◌&&◌, nat_lt, nat_le, List, [], ◌∷◌, ◌++◌, length, map, filter, remove, slice_get, Option, Some, refl, sym, ap, subst, ◌∙◌, arith, length-append}
 use Rattle.std.proofs.lemmas.Bool.Decides.{nat_tests}
 use Rattle.std.proofs.lemmas.List.Edits.{length-remove}
 use Rattle.std.proofs.lemmas.Slice.Eq.{bytes_eq-Decides}
@@ -12,14 +12,13 @@ use Rattle.ql_syntax.specs.declared.statement.Item.{Item}
 use Rattle.ql_syntax.specs.declared.statement.Item.TheVariants as item
 use Rattle.ql_rel.specs.declared.db.Db.{Db}
 use Rattle.ql_rel.specs.declared.schema.Index.{Index}
-use Rattle.ql_rel.specs.declared.schema.Schema.{Schema}
 use Rattle.ql_rel.specs.declared.schema.TableSchema.{TableSchema}
-use Rattle.ql_rel.specs.Accepted.{is_reserved, rule_scope, is_rule, is_default, is_column, are_columns, is_item_there}
+use Rattle.ql_rel.specs.Accepted.{is_reserved, rule_scope, is_rule, is_default, is_column, is_item_there}
 use Rattle.ql_rel.specs.Changes.{changed_at, with_column, without_column, is_by, is_not_by, column_added, column_dropped}
 use Rattle.ql_rel.specs.CreatePlans.{takes_all}
 use Rattle.ql_rel.specs.Creates.{create_table}
 use Rattle.ql_rel.specs.Databases.{schema_of, table_schema, name_if, columns_if, column_name_if}
-use Rattle.ql_rel.specs.Limits.{most_columns, is_past_column, are_past_columns, is_past_added}
+use Rattle.ql_rel.specs.Limits.{most_columns, is_past_column, is_past_added}
 use Rattle.ql_rel.specs.Names.{has_name, are_different, column_names, is_index_of, is_column_taken}
 use Rattle.ql_rel.specs.WellFormed.{IsReadAsItself, IsMade}
 use Rattle.ql_rel.proofs.AlteredLemmas.{IsFine, KeepsIndex, or_steps, made_altered}
