@@ -9,20 +9,6 @@ use Rattle.ql_exec.specs.declared.fault.ExecFault.{ExecFault}
 use Rattle.ql_exec.specs.declared.fault.ExecFault.TheVariants as fault
 use Rattle.ql_exec.proofs.Added.{cause_back}
 
--- a trouble adds no text
-pub trouble_adds : (T U : Type 0) (text : Db → Answer (List ℕ)) (f : ExecFault) (result : Result U ExecFault) (old new : List ℕ) (o : Option Db) → IsErrAnd result (λ e. e ≡ f) → IsTroubleAlone {T = T} (Err f) → IfSome o (λ d. AddsText (text d) result old new)
-trouble_adds T U text f result old new None i t = tt
-trouble_adds T U text f (Ok u) old new (Some d) i t = absurd i
-trouble_adds T U text (fault.Refused r) (Err g) old new (Some d) i t = absurd t
-trouble_adds T U text (fault.Trouble x) (Err g) old new (Some d) i t = subst (λ (z : ExecFault). AddsText {T = U} (text d) (Err z) old new) (sym i) tt
-
--- an exit has the cause of the call before it
-pub exit_caused : (T U : Type 0) (limit own : Option ℕ) (start held : Option Db) (f : ExecFault) (result : Result U ExecFault) (before mid now : ℕ) → IsErrAnd result (λ e. e ≡ f) → own ≡ limit → mid ≡ before → held ≡ start
-    → IsCausedExec {T = T} own held (Err f) mid now → IsCausedExec limit start result before now
-exit_caused T U limit own start held f (Ok u) before mid now i l m h c = absurd i
-exit_caused T U limit own start held f (Err g) before mid now i l m h c =
-    subst (λ (z : ExecFault). IsCausedExec {T = U} limit start (Err z) before now) (sym i) (cause_back T U limit own start held f before mid now l m (λ n. sym h ∙ n) c)
-
 -- a list of no member, of one, and of more
 pub none_is : {A : Type 0} (xs : List A) → length xs < 1 → xs ≡ []
 none_is [] h = refl

@@ -88,20 +88,6 @@ insert_says schema name names exprs p e =
       takes = record { there = there; takes = subst (λ (cs : List ColumnDef). list_all takes_all cs ≡ true) (sym columns) test.1; loose = test.0 };
     }
 
--- the record sets of a SELECT with a plan are there, and its fields have types at their rows
-plan_stops : (schema : Schema) (select : Select) (r : Refusal) → add_sets schema [] (out-Select select).sets ≡ Err r → select_plan schema select ≡ Err r
-plan_stops schema select r e = rw e refl
-
-sets_if : (schema : Schema) (select : Select) (p : Plan) (a : Answer (List Slot)) → add_sets schema [] (out-Select select).sets ≡ a → select_plan schema select ≡ Ok p → (slots : List Slot) × (add_sets schema [] (out-Select select).sets ≡ Ok slots)
-sets_if schema select p (Ok slots) e h = (slots, e)
-sets_if schema select p (Err r) e h = absurd (let no = plan_stops schema select r e in cc)
-
-sets_there : (schema : Schema) (select : Select) (p : Plan) → select_plan schema select ≡ Ok p → (slots : List Slot) × (add_sets schema [] (out-Select select).sets ≡ Ok slots)
-sets_there schema select p e = sets_if schema select p (add_sets schema [] (out-Select select).sets) refl e
-
-pub sets_ok : (schema : Schema) (select : Select) (p : Plan) → select_plan schema select ≡ Ok p → IsOk (add_sets schema [] (out-Select select).sets)
-sets_ok schema select p e = let there = sets_there schema select p e in subst (λ (a : Answer (List Slot)). IsOk a) (sym there.1) refl
-
 only_one : (a : Answer (List Slot)) → then_with a (λ more. Ok more) ≡ a
 only_one (Ok slots) = refl
 only_one (Err r) = refl
