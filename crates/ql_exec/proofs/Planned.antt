@@ -14,9 +14,8 @@ use Rattle.ql_syntax.specs.declared.syntax.Field.{Field}
 use Rattle.ql_syntax.specs.declared.syntax.FromSet.{FromSet, out-FromSet}
 use Rattle.ql_syntax.specs.declared.syntax.Join.{Join}
 use Rattle.ql_syntax.specs.declared.syntax.Link.{Link}
-use Rattle.ql_syntax.specs.declared.syntax.Select.{Select, out-Select}
+use Rattle.ql_syntax.specs.declared.syntax.Select.{Select}
 use Rattle.ql_syntax.specs.declared.syntax.SetSource.{SetSource, out-SetSource}
-use Rattle.ql_syntax.specs.declared.typed.Typed.{Typed}
 use Rattle.ql_syntax.specs.declared.typing.Typing.{Typing}
 use Rattle.ql_syntax.specs.declared.typing.Typing.TheVariants.{OfKind}
 use Rattle.ql_rel.specs.declared.plan.Plan.{Plan}
@@ -30,7 +29,7 @@ use Rattle.ql_rel.specs.InsertPlans.{takes_rows, without_checks, source_plan, in
 use Rattle.ql_rel.specs.Limits.{IsWithin}
 use Rattle.ql_rel.specs.NewNames.{table_there, known_table, place_named}
 use Rattle.ql_rel.specs.PlanTypes.{slot_types, types_if, columns_named, ValuesTyped}
-use Rattle.ql_rel.specs.Plans.{table_named, is_metadata, set_name, column_slots, add_table, add_source, add_set, add_sets, select_plan}
+use Rattle.ql_rel.specs.Plans.{table_named, is_metadata, set_name, column_slots, add_table, add_source, add_set, add_sets}
 use Rattle.ql_rel.specs.Targets.{targets_of}
 use Rattle.ql_rel.proofs.ChangeFits.{known_columns, statement_typed}
 use Rattle.ql_rel.proofs.Fits.{then_ok, same_ok}

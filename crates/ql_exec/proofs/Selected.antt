@@ -1,14 +1,11 @@
 -- The text of a SELECT, from the rows of its FROM.
-use Rattle.std.proofs.Common.{◌≡◌, ℕ, zero, suc, List, [], ◌∷◌, ◌++◌, map, Option, Some, None, IfSome, Result, Ok, Err, refl, sym, ap, subst, ◌∙◌, append-nil}
+use Rattle.std.proofs.Common.{◌≡◌, ℕ, zero, suc, List, [], ◌++◌, map, Option, Some, None, IfSome, Result, Ok, Err, refl, sym, ap, subst, ◌∙◌, append-nil}
 use Rattle.std.specs.Prelude.{IsErrAnd}
 use Rattle.ql_value.specs.declared.refusal.Refusal.{Refusal}
 use Rattle.ql_value.specs.declared.value.Value.{Value}
-use Rattle.ql_syntax.specs.declared.syntax.Select.{Select}
-use Rattle.ql_syntax.specs.declared.typed.Typed.{Typed}
 use Rattle.ql_rel.specs.declared.db.Db.{Db}
-use Rattle.ql_rel.specs.declared.plan.Plan.{Plan}
 use Rattle.ql_rel.specs.declared.select.ResultRow.{ResultRow}
-use Rattle.ql_syntax.specs.Answers.{Answer, refused, then_with}
+use Rattle.ql_syntax.specs.Answers.{Answer, then_with}
 use Rattle.ql_rel.specs.RowLists.{at_most, window}
 use Rattle.ql_rel.specs.SelectRows.{lines_of}
 use Rattle.ql_rel.proofs.Fits.{same_ok}

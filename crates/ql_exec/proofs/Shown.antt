@@ -1,6 +1,6 @@
 -- The text of a SELECT, from its parts in turn.
-use Rattle.std.proofs.Common.{◌≡◌, ℕ, Bool, true, false, if◌then◌else◌, List, [], ◌∷◌, ◌++◌, map, Option, Some, None, IfSome, Result, Ok, Err, refl, sym, ap, subst, ◌∙◌}
-use Rattle.std.specs.Prelude.{IsOk, IsErrAnd}
+use Rattle.std.proofs.Common.{◌≡◌, ℕ, Bool, false, if◌then◌else◌, List, [], ◌++◌, Option, Some, None, IfSome, Result, Ok, Err, refl, sym, ap, subst, ◌∙◌}
+use Rattle.std.specs.Prelude.{IsErrAnd}
 use Rattle.ql_value.specs.declared.refusal.Refusal.{Refusal}
 use Rattle.ql_value.specs.declared.refusal.TheConstants.{LATER}
 use Rattle.ql_value.specs.declared.value.Value.{Value}
@@ -8,19 +8,14 @@ use Rattle.ql_syntax.specs.declared.syntax.Select.{Select, out-Select}
 use Rattle.ql_syntax.specs.Answers.{Answer, refused, then_with}
 use Rattle.ql_rel.specs.declared.db.Db.{Db}
 use Rattle.ql_rel.specs.declared.plan.Plan.{Plan}
-use Rattle.ql_rel.specs.declared.select.ResultRow.{ResultRow}
-use Rattle.ql_rel.specs.RowLists.{window}
 use Rattle.ql_rel.specs.SelectRows.{count_of, filtered, results, results_of, is_in_turn, shown_of, shown_rows, from_rows, heading, lines_of, select_text}
 use Rattle.ql_rel.proofs.Fits.{same_ok}
-use Rattle.ql_exec.specs.Answers.{Answers}
 use Rattle.ql_exec.specs.Scans.{Added, AddsText}
-use Rattle.ql_exec.specs.Turns.{results_left, Passes}
-use Rattle.ql_exec.specs.Windows.{shown, result_lines, select_lines}
+use Rattle.ql_exec.specs.Turns.{results_left}
+use Rattle.ql_exec.specs.Windows.{result_lines, select_lines}
 use Rattle.ql_exec.specs.declared.limits.Window.{Window}
 use Rattle.ql_exec.specs.declared.fault.ExecFault.{ExecFault}
 use Rattle.ql_exec.specs.declared.fault.ExecFault.TheVariants as fault
-use Rattle.ql_exec.proofs.Selected.{values_in}
-use Rattle.ql_exec.proofs.Turned.{told_back}
 
 -- the parts of a SELECT that shows rows in turn
 abbrev parts : Db → Select → Plan → Answer (List (List Value))

@@ -1,32 +1,29 @@
 -- One row of a FROM more, and the rows behind it.
-use Rattle.std.proofs.Common.{◌≡◌, ℕ, zero, suc, ◌-◌, ◌^◌, ◌<◌, ◌≤◌, Bool, true, false, if◌then◌else◌, List, [], ◌∷◌, ◌++◌, map, filter, Option, Some, None, IfSome, Result, Ok, Err, refl, sym, ap, subst, ◌∙◌, arith}
-use Rattle.std.specs.Prelude.{IsOk, IsErrAnd}
+use Rattle.std.proofs.Common.{◌≡◌, ℕ, ◌-◌, ◌^◌, ◌<◌, ◌≤◌, Bool, false, if◌then◌else◌, List, [], ◌∷◌, map, filter, Option, Some, None, IfSome, Ok, Err, refl, sym, ap, subst, ◌∙◌, arith}
+use Rattle.std.specs.Prelude.{IsOk}
 use Rattle.ql_value.specs.declared.refusal.Refusal.{Refusal}
 use Rattle.ql_value.specs.declared.value.Value.{Value}
 use Rattle.ql_syntax.specs.declared.typed.Typed.{Typed}
-use Rattle.ql_syntax.specs.Answers.{Answer, refused, then_with}
+use Rattle.ql_syntax.specs.Answers.{Answer, then_with}
 use Rattle.ql_rel.specs.declared.db.Db.{Db}
 use Rattle.ql_rel.specs.declared.db.Row.{Row}
 use Rattle.ql_rel.specs.Databases.{rows_at}
-use Rattle.ql_rel.specs.Rels.{is_after, row_after}
+use Rattle.ql_rel.specs.Rels.{row_after}
 use Rattle.ql_rel.specs.Rows.{is_meant}
 use Rattle.ql_rel.specs.SelectRows.{set_row, filtered}
 use Rattle.ql_rel.specs.Limits.{last_id}
 use Rattle.ql_rel.specs.WellFormed.{Fits, IsWellFormed}
 use Rattle.ql_syntax.specs.declared.statement.ColumnDef.{ColumnDef}
 use Rattle.ql_exec.specs.Scans.{table_types}
-use Rattle.ql_exec.specs.Answers.{Answers, AreTypedAt}
+use Rattle.ql_exec.specs.Answers.{AreTypedAt}
 use Rattle.ql_syntax.specs.declared.typing.Typing.{Typing}
 use Rattle.ql_syntax.specs.Typing.{FitsRow, WellTyped, type_of}
 use Rattle.ql_rel.specs.declared.schema.Schema.{Schema}
 use Rattle.ql_rel.specs.PlanTypes.{AreTyped, IsFilter}
-use Rattle.ql_exec.specs.Turns.{rows_if, types_if, Rises, Comes, Passes}
-use Rattle.ql_exec.specs.declared.fault.ExecFault.{ExecFault}
-use Rattle.ql_exec.specs.declared.fault.ExecFault.TheVariants as fault
+use Rattle.ql_exec.specs.Turns.{rows_if, types_if, Rises, Comes}
 use Rattle.ql_exec.proofs.Lined.{rise_at, typed_each}
 use Rattle.ql_exec.proofs.Assigned.{filter_typed, row_fits_types}
 use Rattle.ql_exec.proofs.Scanned.{next_found, none_found}
-use Rattle.ql_exec.specs.Carries.{IsTroubleAlone}
 use Rattle.ql_rel.proofs.Fits.{same_ok}
 
 -- the rows of a table behind an id begin with the row that a scan gives
@@ -60,18 +57,12 @@ fewer before now h = omega (arith, h.0, h.1)
 pub told_back : (P : Db → Type 0) (o p : Option Db) → p ≡ o → IfSome p P → IfSome o P
 told_back P o p e h = subst (λ (z : Option Db). IfSome z P) e h
 
--- the answer to a row that WHERE does not mean, and to one that it means
+-- a row that WHERE does not mean
 passed : (filter : Option Typed) (row : List Value) (left : List (List Value)) → is_meant filter row ≡ Ok false → filtered filter (row ∷ left) ≡ filtered filter left
 passed filter row left m = ap (λ (a : Answer Bool). then_with a (λ meant. then_with (filtered filter left) (λ more. Ok (if meant then row ∷ more else more)))) m ∙ same (filtered filter left) where
   same : (a : Answer (List (List Value))) → then_with a (λ more. Ok more) ≡ a
   same (Ok rows) = refl
   same (Err r) = refl
-
-meant : (filter : Option Typed) (row : List Value) (left : List (List Value)) → is_meant filter row ≡ Ok true → filtered filter (row ∷ left) ≡ then_with (filtered filter left) (λ more. Ok (row ∷ more))
-meant filter row left m = ap (λ (a : Answer Bool). then_with a (λ meant. then_with (filtered filter left) (λ more. Ok (if meant then row ∷ more else more)))) m
-
-judged : (filter : Option Typed) (row : List Value) (left : List (List Value)) (r : Refusal) → is_meant filter row ≡ Err r → filtered filter (row ∷ left) ≡ Err r
-judged filter row left r m = ap (λ (a : Answer Bool). then_with a (λ meant. then_with (filtered filter left) (λ more. Ok (if meant then row ∷ more else more)))) m
 
 same_rows : (a b : List (List Value)) → ◌≡◌ {A = Answer (List (List Value))} (Ok a) (Ok b) → a ≡ b
 same_rows a b e = same_ok a b e
@@ -90,17 +81,12 @@ rows_pass filter x row seen m whole now left (Some d) p k s e g c a n =
     let test : is_meant filter row ≡ Ok false = ap (is_meant filter) (sym s) ∙ a ∙ ap Ok n in
     g ∙ ap (filtered filter) first ∙ passed filter row (left d) test
 
--- where the condition is refused
-refuses : (filter : Option Typed) (row : List Value) (whole now left after : List (List Value)) (f : ExecFault) → filtered filter whole ≡ filtered filter now → now ≡ row ∷ left → Answers {A = Bool} (is_meant filter row) (Err f)
-    → Comes {A = List Value} (filtered filter whole) (Err f) (filtered filter after)
-refuses filter row whole now left after (fault.Refused r) g n a = g ∙ ap (filtered filter) n ∙ judged filter row left r a
-refuses filter row whole now left after (fault.Trouble t) g n a = tt
-
 -- what ends an answer ends another one: it is there where that is, and has its refusal
 pub record Ends {A : Type 0} (whole left : Answer A) : Type 0 where
   pub ok : IsOk left → IsOk whole
   pub err : (r : Refusal) → left ≡ Err r → whole ≡ Err r
 
+-- an answer ends itself, as at the start of a loop
 pub ends_self : {A : Type 0} (a : Answer A) → Ends a a
 ends_self a = record { ok = λ h. h; err = λ r e. e }
 
