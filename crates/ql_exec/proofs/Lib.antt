@@ -12,11 +12,10 @@ pub mod Lined
 pub mod Planned
 pub mod Sourced
 pub mod Turned
-pub mod Resulted
 pub mod Selected
 pub mod Opened
 pub mod Shown
-pub mod Exits
+pub mod Few
 pub mod Rounds
 pub mod Assigned
 pub mod NewRows

@@ -1,5 +1,5 @@
 -- The rows of a table have its types.
-use Rattle.std.proofs.Common.{◌≡◌, ℕ, zero, suc, List, [], ◌∷◌, map, slice_get, ◌≤◌, pos, rules}
+use Rattle.std.proofs.Common.{ℕ, zero, suc, List, [], ◌∷◌, map, slice_get, ◌≤◌, pos, rules}
 use Rattle.std.specs.List.{AllByRecursion}
 use Rattle.ql_value.specs.declared.value.Kind.TheVariants as k
 use Rattle.ql_value.specs.declared.value.Value.{Value}
@@ -15,7 +15,7 @@ use Rattle.ql_rel.specs.declared.db.Table.{Table}
 use Rattle.ql_rel.specs.Databases.{rows_if}
 use Rattle.ql_rel.specs.Limits.{last_id}
 use Rattle.ql_rel.specs.PlanTypes.{AreTyped}
-use Rattle.ql_rel.specs.WellFormed.{Fits, HoldsRows, IsWellFormed, Rise}
+use Rattle.ql_rel.specs.WellFormed.{Fits, HoldsRows, Rise}
 use Rattle.ql_exec.specs.Answers.{AreTypedAt}
 
 pub rise_at : (db : Db) (n : ℕ) (tables : List Table) → AllByRecursion (HoldsRows db) tables → Rise 1 (rows_if (slice_get tables n))

@@ -1,20 +1,14 @@
 -- The rows of a FROM before the first is given.
-use Rattle.std.proofs.Common.{◌≡◌, ℕ, ◌<◌, ◌≤◌, List, [], ◌∷◌, length, map, filter, Option, Some, None, IfSome, Ok, Err, refl, sym, ap, subst, ◌∙◌, arith}
+use Rattle.std.proofs.Common.{◌≡◌, ℕ, ◌<◌, ◌≤◌, List, [], ◌∷◌, length, map, Option, Some, None, IfSome, Ok, Err, refl, sym, ap, subst, ◌∙◌, arith}
 use Rattle.std.specs.Prelude.{IsOk}
 use Rattle.ql_value.specs.declared.value.Value.{Value}
-use Rattle.ql_syntax.specs.declared.syntax.Expr.{Expr}
 use Rattle.ql_syntax.specs.declared.syntax.Expr.TheOpen.{SetSource-F}
-use Rattle.ql_syntax.specs.declared.syntax.Field.{Field}
 use Rattle.ql_syntax.specs.declared.syntax.FromSet.{FromSet, out-FromSet}
-use Rattle.ql_syntax.specs.declared.syntax.Join.{Join}
-use Rattle.ql_syntax.specs.declared.syntax.Link.{Link}
 use Rattle.ql_syntax.specs.declared.syntax.Select.{Select}
-use Rattle.ql_syntax.specs.declared.syntax.SetSource.{SetSource, out-SetSource}
+use Rattle.ql_syntax.specs.declared.syntax.SetSource.{out-SetSource}
 use Rattle.ql_syntax.specs.declared.scope.Slot.{Slot}
-use Rattle.ql_syntax.specs.declared.typing.Typing.{Typing}
 use Rattle.ql_syntax.specs.Answers.{Answer}
 use Rattle.ql_rel.specs.declared.db.Db.{Db}
-use Rattle.ql_rel.specs.declared.db.Row.{Row}
 use Rattle.ql_rel.specs.declared.schema.Schema.{Schema}
 use Rattle.ql_rel.specs.Databases.{schema_of, rows_at}
 use Rattle.ql_rel.specs.NewNames.{place_named}

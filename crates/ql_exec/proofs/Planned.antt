@@ -14,9 +14,8 @@ use Rattle.ql_syntax.specs.declared.syntax.Field.{Field}
 use Rattle.ql_syntax.specs.declared.syntax.FromSet.{FromSet, out-FromSet}
 use Rattle.ql_syntax.specs.declared.syntax.Join.{Join}
 use Rattle.ql_syntax.specs.declared.syntax.Link.{Link}
-use Rattle.ql_syntax.specs.declared.syntax.Select.{Select, out-Select}
+use Rattle.ql_syntax.specs.declared.syntax.Select.{Select}
 use Rattle.ql_syntax.specs.declared.syntax.SetSource.{SetSource, out-SetSource}
-use Rattle.ql_syntax.specs.declared.typed.Typed.{Typed}
 use Rattle.ql_syntax.specs.declared.typing.Typing.{Typing}
 use Rattle.ql_syntax.specs.declared.typing.Typing.TheVariants.{OfKind}
 use Rattle.ql_rel.specs.declared.plan.Plan.{Plan}
@@ -30,7 +29,7 @@ use Rattle.ql_rel.specs.InsertPlans.{takes_rows, without_checks, source_plan, in
 use Rattle.ql_rel.specs.Limits.{IsWithin}
 use Rattle.ql_rel.specs.NewNames.{table_there, known_table, place_named}
 use Rattle.ql_rel.specs.PlanTypes.{slot_types, types_if, columns_named, ValuesTyped}
-use Rattle.ql_rel.specs.Plans.{table_named, is_metadata, set_name, column_slots, add_table, add_source, add_set, add_sets, select_plan}
+use Rattle.ql_rel.specs.Plans.{table_named, is_metadata, set_name, column_slots, add_table, add_source, add_set, add_sets}
 use Rattle.ql_rel.specs.Targets.{targets_of}
 use Rattle.ql_rel.proofs.ChangeFits.{known_columns, statement_typed}
 use Rattle.ql_rel.proofs.Fits.{then_ok, same_ok}
@@ -87,20 +86,6 @@ insert_says schema name names exprs p e =
       typed = subst (λ (cs : List ColumnDef). ValuesTyped cs p) (known_columns name schema a.0 a.1 ∙ sym columns) typed;
       takes = record { there = there; takes = subst (λ (cs : List ColumnDef). list_all takes_all cs ≡ true) (sym columns) test.1; loose = test.0 };
     }
-
--- the record sets of a SELECT with a plan are there, and its fields have types at their rows
-plan_stops : (schema : Schema) (select : Select) (r : Refusal) → add_sets schema [] (out-Select select).sets ≡ Err r → select_plan schema select ≡ Err r
-plan_stops schema select r e = rw e refl
-
-sets_if : (schema : Schema) (select : Select) (p : Plan) (a : Answer (List Slot)) → add_sets schema [] (out-Select select).sets ≡ a → select_plan schema select ≡ Ok p → (slots : List Slot) × (add_sets schema [] (out-Select select).sets ≡ Ok slots)
-sets_if schema select p (Ok slots) e h = (slots, e)
-sets_if schema select p (Err r) e h = absurd (let no = plan_stops schema select r e in cc)
-
-sets_there : (schema : Schema) (select : Select) (p : Plan) → select_plan schema select ≡ Ok p → (slots : List Slot) × (add_sets schema [] (out-Select select).sets ≡ Ok slots)
-sets_there schema select p e = sets_if schema select p (add_sets schema [] (out-Select select).sets) refl e
-
-pub sets_ok : (schema : Schema) (select : Select) (p : Plan) → select_plan schema select ≡ Ok p → IsOk (add_sets schema [] (out-Select select).sets)
-sets_ok schema select p e = let there = sets_there schema select p e in subst (λ (a : Answer (List Slot)). IsOk a) (sym there.1) refl
 
 only_one : (a : Answer (List Slot)) → then_with a (λ more. Ok more) ≡ a
 only_one (Ok slots) = refl

@@ -1,14 +1,11 @@
 -- The text of a SELECT, from the rows of its FROM.
-use Rattle.std.proofs.Common.{◌≡◌, ℕ, zero, suc, List, [], ◌∷◌, ◌++◌, map, Option, Some, None, IfSome, Result, Ok, Err, refl, sym, ap, subst, ◌∙◌, append-nil}
+use Rattle.std.proofs.Common.{◌≡◌, ℕ, zero, suc, List, [], ◌++◌, map, Option, Some, None, IfSome, Result, Ok, Err, refl, sym, ap, subst, ◌∙◌, append-nil}
 use Rattle.std.specs.Prelude.{IsErrAnd}
 use Rattle.ql_value.specs.declared.refusal.Refusal.{Refusal}
 use Rattle.ql_value.specs.declared.value.Value.{Value}
-use Rattle.ql_syntax.specs.declared.syntax.Select.{Select}
-use Rattle.ql_syntax.specs.declared.typed.Typed.{Typed}
 use Rattle.ql_rel.specs.declared.db.Db.{Db}
-use Rattle.ql_rel.specs.declared.plan.Plan.{Plan}
 use Rattle.ql_rel.specs.declared.select.ResultRow.{ResultRow}
-use Rattle.ql_syntax.specs.Answers.{Answer, refused, then_with}
+use Rattle.ql_syntax.specs.Answers.{Answer, then_with}
 use Rattle.ql_rel.specs.RowLists.{at_most, window}
 use Rattle.ql_rel.specs.SelectRows.{lines_of}
 use Rattle.ql_rel.proofs.Fits.{same_ok}
@@ -27,20 +24,6 @@ values_in rows = map (λ (x : ResultRow). x.values) rows
 -- a text, and the lines of rows behind it
 abbrev pub text_with : Window → Answer (List ResultRow) → List ℕ → Answer (List ℕ)
 text_with w rows text = then_with rows (λ shown. Ok (text ++ shown_lines w (values_in shown)))
-
-next_text : (w v : Window) (row : ResultRow) (left : Answer (List ResultRow)) (text more : List ℕ) → ((rows : List (List Value)) → more ++ shown_lines v rows ≡ text ++ shown_lines w (row.values ∷ rows))
-    → text_with w (then_with left (λ rows. Ok (row ∷ rows))) text ≡ text_with v left more
-next_text w v row (Ok rows) text more h = ap Ok (sym (h (values_in rows)))
-next_text w v row (Err r) text more h = refl
-
--- a row more
-pub text_next : (w v u : Window) (x : Option ResultRow) (row : ResultRow) (whole now left : Db → Answer (List ResultRow)) (first text more : List ℕ) (o p : Option Db) → x ≡ Some row → p ≡ o
-    → IfSome o (λ d. text_with w (whole d) first ≡ text_with v (now d) text) → IfSome p (λ d. Comes (now d) (Ok x) (left d)) → ((rows : List (List Value)) → more ++ shown_lines u rows ≡ text ++ shown_lines v (row.values ∷ rows))
-    → IfSome o (λ d. text_with w (whole d) first ≡ text_with u (left d) more)
-text_next w v u x row whole now left first text more None p k e g c h = tt
-text_next w v u x row whole now left first text more (Some d) p k e g c h =
-    let came : now d ≡ then_with (left d) (λ rows. Ok (row ∷ rows)) = subst (λ (z : Option ResultRow). Comes (now d) (Ok z) (left d)) k (told_back (λ d. Comes (now d) (Ok x) (left d)) (Some d) p e c) in
-    g ∙ ap (λ (a : Answer (List ResultRow)). text_with v a text) came ∙ next_text v u row (left d) text more h
 
 text_is : (w : Window) (a : Answer (List ResultRow)) (before now : List ℕ) → text_with w a before ≡ Ok now → Added (then_with a (result_lines w)) before now
 text_is w (Ok rows) before now e = record { text = shown_lines w (values_in rows); is = refl; grown = sym (same_ok (before ++ shown_lines w (values_in rows)) now e) }

@@ -1,32 +1,29 @@
 -- One row of a FROM more, and the rows behind it.
-use Rattle.std.proofs.Common.{◌≡◌, ℕ, zero, suc, ◌-◌, ◌^◌, ◌<◌, ◌≤◌, Bool, true, false, if◌then◌else◌, List, [], ◌∷◌, ◌++◌, map, filter, Option, Some, None, IfSome, Result, Ok, Err, refl, sym, ap, subst, ◌∙◌, arith}
-use Rattle.std.specs.Prelude.{IsOk, IsErrAnd}
+use Rattle.std.proofs.Common.{◌≡◌, ℕ, ◌-◌, ◌^◌, ◌<◌, ◌≤◌, Bool, false, if◌then◌else◌, List, [], ◌∷◌, map, filter, Option, Some, None, IfSome, Ok, Err, refl, sym, ap, subst, ◌∙◌, arith}
+use Rattle.std.specs.Prelude.{IsOk}
 use Rattle.ql_value.specs.declared.refusal.Refusal.{Refusal}
 use Rattle.ql_value.specs.declared.value.Value.{Value}
 use Rattle.ql_syntax.specs.declared.typed.Typed.{Typed}
-use Rattle.ql_syntax.specs.Answers.{Answer, refused, then_with}
+use Rattle.ql_syntax.specs.Answers.{Answer, then_with}
 use Rattle.ql_rel.specs.declared.db.Db.{Db}
 use Rattle.ql_rel.specs.declared.db.Row.{Row}
 use Rattle.ql_rel.specs.Databases.{rows_at}
-use Rattle.ql_rel.specs.Rels.{is_after, row_after}
+use Rattle.ql_rel.specs.Rels.{row_after}
 use Rattle.ql_rel.specs.Rows.{is_meant}
 use Rattle.ql_rel.specs.SelectRows.{set_row, filtered}
 use Rattle.ql_rel.specs.Limits.{last_id}
 use Rattle.ql_rel.specs.WellFormed.{Fits, IsWellFormed}
 use Rattle.ql_syntax.specs.declared.statement.ColumnDef.{ColumnDef}
 use Rattle.ql_exec.specs.Scans.{table_types}
-use Rattle.ql_exec.specs.Answers.{Answers, AreTypedAt}
+use Rattle.ql_exec.specs.Answers.{AreTypedAt}
 use Rattle.ql_syntax.specs.declared.typing.Typing.{Typing}
 use Rattle.ql_syntax.specs.Typing.{FitsRow, WellTyped, type_of}
 use Rattle.ql_rel.specs.declared.schema.Schema.{Schema}
 use Rattle.ql_rel.specs.PlanTypes.{AreTyped, IsFilter}
-use Rattle.ql_exec.specs.Turns.{rows_if, types_if, Rises, Comes, Passes}
-use Rattle.ql_exec.specs.declared.fault.ExecFault.{ExecFault}
-use Rattle.ql_exec.specs.declared.fault.ExecFault.TheVariants as fault
+use Rattle.ql_exec.specs.Turns.{rows_if, types_if, Rises, Comes}
 use Rattle.ql_exec.proofs.Lined.{rise_at, typed_each}
 use Rattle.ql_exec.proofs.Assigned.{filter_typed, row_fits_types}
 use Rattle.ql_exec.proofs.Scanned.{next_found, none_found}
-use Rattle.ql_exec.specs.Carries.{IsTroubleAlone}
 use Rattle.ql_rel.proofs.Fits.{same_ok}
 
 -- the rows of a table behind an id begin with the row that a scan gives
@@ -56,42 +53,16 @@ over_here P x y k h = subst (λ z. IfSome z (λ _. P)) k h
 pub fewer : (before now : ℕ) → Rises before now → 2 ^ 64 - now < 2 ^ 64 - before
 fewer before now h = omega (arith, h.0, h.1)
 
--- the one row without values, and none behind it
-pub sole_comes : (after : ℕ) (d : Db) → after ≤ 0 → ◌≡◌ {A = Answer (List (List Value))} (Ok (rows_if None after d)) (Ok ([] ∷ []))
-sole_comes zero d h = refl
-sole_comes (suc n) d h = absurd (omega (arith, h))
-
-pub sole_over : (after : ℕ) (d : Db) → 0 < after → ◌≡◌ {A = Answer (List (List Value))} (Ok (rows_if None after d)) (Ok [])
-sole_over zero d h = absurd (omega (arith, h))
-sole_over (suc n) d h = refl
-
--- an arm for the table that is named
-pub at_table : {A : Type 0} (P : Option ℕ → A → Type 0) (table x : Option ℕ) (a : A) → table ≡ x → P x a → P table a
-at_table P table x a e h = subst (λ (z : Option ℕ). P z a) (sym e) h
-
 -- what an answer says of what comes is said of the database that was told before it
 pub told_back : (P : Db → Type 0) (o p : Option Db) → p ≡ o → IfSome p P → IfSome o P
 told_back P o p e h = subst (λ (z : Option Db). IfSome z P) e h
 
--- an exit with a trouble
-pub trouble_comes : {B : Type 0} (T : Type 0) (W Z : Db → Answer (List B)) (f : ExecFault) (result : Result (Option B) ExecFault) (o : Option Db) → IsErrAnd result (λ e. e ≡ f) → IsTroubleAlone {T = T} (Err f) → IfSome o (λ d. Comes (W d) result (Z d))
-trouble_comes T W Z f result None i t = tt
-trouble_comes T W Z f (Ok x) (Some d) i t = absurd i
-trouble_comes T W Z (fault.Refused r) (Err g) (Some d) i t = absurd t
-trouble_comes {B = B} T W Z (fault.Trouble x) (Err g) (Some d) i t = subst (λ (z : ExecFault). Comes {A = B} (W d) (Err z) (Z d)) (sym i) tt
-
--- the answer to a row that WHERE does not mean, and to one that it means
+-- a row that WHERE does not mean
 passed : (filter : Option Typed) (row : List Value) (left : List (List Value)) → is_meant filter row ≡ Ok false → filtered filter (row ∷ left) ≡ filtered filter left
 passed filter row left m = ap (λ (a : Answer Bool). then_with a (λ meant. then_with (filtered filter left) (λ more. Ok (if meant then row ∷ more else more)))) m ∙ same (filtered filter left) where
   same : (a : Answer (List (List Value))) → then_with a (λ more. Ok more) ≡ a
   same (Ok rows) = refl
   same (Err r) = refl
-
-meant : (filter : Option Typed) (row : List Value) (left : List (List Value)) → is_meant filter row ≡ Ok true → filtered filter (row ∷ left) ≡ then_with (filtered filter left) (λ more. Ok (row ∷ more))
-meant filter row left m = ap (λ (a : Answer Bool). then_with a (λ meant. then_with (filtered filter left) (λ more. Ok (if meant then row ∷ more else more)))) m
-
-judged : (filter : Option Typed) (row : List Value) (left : List (List Value)) (r : Refusal) → is_meant filter row ≡ Err r → filtered filter (row ∷ left) ≡ Err r
-judged filter row left r m = ap (λ (a : Answer Bool). then_with a (λ meant. then_with (filtered filter left) (λ more. Ok (if meant then row ∷ more else more)))) m
 
 same_rows : (a b : List (List Value)) → ◌≡◌ {A = Answer (List (List Value))} (Ok a) (Ok b) → a ≡ b
 same_rows a b e = same_ok a b e
@@ -110,82 +81,18 @@ rows_pass filter x row seen m whole now left (Some d) p k s e g c a n =
     let test : is_meant filter row ≡ Ok false = ap (is_meant filter) (sym s) ∙ a ∙ ap Ok n in
     g ∙ ap (filtered filter) first ∙ passed filter row (left d) test
 
--- where it is meant
-pub row_meant : (filter : Option Typed) (x : Option (List Value)) (row seen : List Value) (m : Bool) (whole now left : Db → List (List Value)) (o p : Option Db) → x ≡ Some row → seen ≡ row → p ≡ o
-    → IfSome o (λ d. filtered filter (whole d) ≡ filtered filter (now d)) → IfSome p (λ d. Comes (Ok (now d)) (Ok x) (Ok (left d))) → is_meant filter seen ≡ Ok m → m ≡ true
-    → IfSome o (λ d. filtered filter (whole d) ≡ then_with (filtered filter (left d)) (λ more. Ok (row ∷ more)))
-row_meant filter x row seen m whole now left None p k s e g c a n = tt
-row_meant filter x row seen m whole now left (Some d) p k s e g c a n =
-    let first = here x row (now d) (left d) k (told_back (λ d. Comes (Ok (now d)) (Ok x) (Ok (left d))) (Some d) p e c) in
-    let test : is_meant filter row ≡ Ok true = ap (is_meant filter) (sym s) ∙ a ∙ ap Ok n in
-    g ∙ ap (filtered filter) first ∙ meant filter row (left d) test
-
--- where the condition is refused
-refuses : (filter : Option Typed) (row : List Value) (whole now left after : List (List Value)) (f : ExecFault) → filtered filter whole ≡ filtered filter now → now ≡ row ∷ left → Answers {A = Bool} (is_meant filter row) (Err f)
-    → Comes {A = List Value} (filtered filter whole) (Err f) (filtered filter after)
-refuses filter row whole now left after (fault.Refused r) g n a = g ∙ ap (filtered filter) n ∙ judged filter row left r a
-refuses filter row whole now left after (fault.Trouble t) g n a = tt
-
-pub row_refused : (filter : Option Typed) (x : Option (List Value)) (row seen : List Value) (f : ExecFault) (result : Result (Option (List Value)) ExecFault) (whole now left after : Db → List (List Value)) (o p : Option Db) → IsErrAnd result (λ e. e ≡ f)
-    → x ≡ Some row → seen ≡ row → p ≡ o → IfSome o (λ d. filtered filter (whole d) ≡ filtered filter (now d)) → IfSome p (λ d. Comes (Ok (now d)) (Ok x) (Ok (left d))) → Answers {A = Bool} (is_meant filter seen) (Err f)
-    → IfSome o (λ d. Comes (filtered filter (whole d)) result (filtered filter (after d)))
-row_refused filter x row seen f result whole now left after None p i k s e g c a = tt
-row_refused filter x row seen f (Ok u) whole now left after (Some d) p i k s e g c a = absurd i
-row_refused filter x row seen f (Err q) whole now left after (Some d) p i k s e g c a =
-    let first = here x row (now d) (left d) k (told_back (λ d. Comes (Ok (now d)) (Ok x) (Ok (left d))) (Some d) p e c) in
-    let answer : Answers {A = Bool} (is_meant filter row) (Err f) = subst (λ (xs : List Value). Answers {A = Bool} (is_meant filter xs) (Err f)) s a in
-    subst (λ (z : ExecFault). Comes {A = List Value} (filtered filter (whole d)) (Err z) (filtered filter (after d))) (sym i) (refuses filter row (whole d) (now d) (left d) (after d) f g first answer)
-
--- where no row is left
-pub none_meant : (filter : Option Typed) (x : Option (List Value)) (whole now left : Db → List (List Value)) (o p : Option Db) → ((row : List Value) → x ≡ Some row → ⊥) → p ≡ o
-    → IfSome o (λ d. filtered filter (whole d) ≡ filtered filter (now d)) → IfSome p (λ d. Comes (Ok (now d)) (Ok x) (Ok (left d))) → IfSome o (λ d. filtered filter (whole d) ≡ Ok [])
-none_meant filter x whole now left None p n e g c = tt
-none_meant filter None whole now left (Some d) p n e g c =
-    g ∙ ap (filtered filter) (same_rows (now d) [] (told_back (λ d. Comes {A = List Value} (Ok (now d)) (Ok None) (Ok (left d))) (Some d) p e c))
-none_meant filter (Some row) whole now left (Some d) p n e g c = absurd (n row refl)
-
 -- what ends an answer ends another one: it is there where that is, and has its refusal
 pub record Ends {A : Type 0} (whole left : Answer A) : Type 0 where
   pub ok : IsOk left → IsOk whole
   pub err : (r : Refusal) → left ≡ Err r → whole ≡ Err r
 
+-- an answer ends itself, as at the start of a loop
 pub ends_self : {A : Type 0} (a : Answer A) → Ends a a
 ends_self a = record { ok = λ h. h; err = λ r e. e }
 
 pub ends_start : {A : Type 0} (a : Db → Answer A) (o : Option Db) → IfSome o (λ d. Ends (a d) (a d))
 ends_start a None = tt
 ends_start a (Some d) = ends_self (a d)
-
-more_ok : {A : Type 0} (x : A) (left : Answer (List A)) → IsOk left → IsOk (then_with left (λ more. Ok (x ∷ more)))
-more_ok x (Ok xs) h = h
-more_ok x (Err r) h = h
-
-next_ends : {A : Type 0} (x : A) (whole now left : Answer (List A)) → Ends whole now → now ≡ then_with left (λ more. Ok (x ∷ more)) → Ends whole left
-next_ends x whole now left e n = record {
-  ok = λ h. e.ok (subst IsOk (sym n) (more_ok x left h));
-  err = λ r k. e.err r (n ∙ ap (λ a. then_with a (λ more. Ok (x ∷ more))) k);
-}
-
-pub ends_next : {A : Type 0} (x : Option A) (y : A) (whole now left : Db → Answer (List A)) (o p : Option Db) → x ≡ Some y → p ≡ o → IfSome o (λ d. Ends (whole d) (now d)) → IfSome p (λ d. Comes (now d) (Ok x) (left d)) → IfSome o (λ d. Ends (whole d) (left d))
-ends_next x y whole now left None p k e g c = tt
-ends_next x y whole now left (Some d) p k e g c =
-    next_ends y (whole d) (now d) (left d) g (subst (λ z. Comes (now d) (Ok z) (left d)) k (told_back (λ d. Comes (now d) (Ok x) (left d)) (Some d) p e c))
-
-pub ends_last : {A : Type 0} (x : Option A) (whole now left : Db → Answer (List A)) (o p : Option Db) → ((y : A) → x ≡ Some y → ⊥) → p ≡ o → IfSome o (λ d. Ends (whole d) (now d)) → IfSome p (λ d. Comes (now d) (Ok x) (left d)) → IfSome o (λ d. IsOk (whole d))
-ends_last x whole now left None p n e g c = tt
-ends_last None whole now left (Some d) p n e g c = g.ok (subst IsOk (sym (told_back (λ d. Comes (now d) (Ok None) (left d)) (Some d) p e c)) refl)
-ends_last (Some y) whole now left (Some d) p n e g c = absurd (n y refl)
-
-ends_by : {A : Type 0} (T : Type 0) (whole now left : Answer (List A)) (f : ExecFault) → Ends whole now → Comes now (Err f) left → Passes {T = T} whole (Err f)
-ends_by T whole now left (fault.Refused r) e c = e.err r c
-ends_by T whole now left (fault.Trouble t) e c = tt
-
-pub ends_stop : {A : Type 0} (T : Type 0) (whole now left : Db → Answer (List A)) (f : ExecFault) (result : Result T ExecFault) (o p : Option Db) → IsErrAnd result (λ e. e ≡ f) → p ≡ o → IfSome o (λ d. Ends (whole d) (now d)) → IfSome p (λ d. Comes (now d) (Err f) (left d))
-    → IfSome o (λ d. Passes (whole d) result)
-ends_stop T whole now left f result None p i e g c = tt
-ends_stop T whole now left f (Ok u) (Some d) p i e g c = absurd i
-ends_stop T whole now left f (Err q) (Some d) p i e g c =
-    subst (λ (z : ExecFault). Passes {T = T} (whole d) (Err z)) (sym i) (ends_by T (whole d) (now d) (left d) f g (told_back (λ d. Comes (now d) (Err f) (left d)) (Some d) p e c))
 
 pub same_start : {A : Type 0} (a : Db → A) (o : Option Db) → IfSome o (λ d. a d ≡ a d)
 same_start a None = tt

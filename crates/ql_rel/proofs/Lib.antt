@@ -21,6 +21,7 @@ pub mod NarrowForms
 mod TextLemmas
 mod EventLemmas
 mod StatementExamples
+mod SelectExamples
 pub mod TargetFits
 pub mod InsertFits
 pub mod InsertSelects

@@ -1,5 +1,5 @@
 -- A line more, and the last one.
-use Rattle.std.proofs.Common.{refl, arith}
+use Rattle.std.proofs.Common.{refl}
 use Rattle.ql_exec.specs.Turns.{Rises}
 use Rattle.ql_exec.proofs.Turned.{same_start, over_here, fewer}
 use Rattle.ql_exec.proofs.Selected.{text_ends}

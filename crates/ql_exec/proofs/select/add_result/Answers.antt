@@ -1,5 +1,5 @@
 -- Groups come later, and without them there is a line for each row.
-use Rattle.ql_exec.proofs.Shown.{groups_later, pass_stops, plain_shows}
+use Rattle.ql_exec.proofs.Shown.{plain_shows}
 use Rattle.ql_exec.specs.Turns.{rows_of}
 use Rattle.ql_exec.proofs.select.add_result.Goals as goal
 

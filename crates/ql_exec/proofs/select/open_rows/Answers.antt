@@ -1,8 +1,8 @@
 -- No record set, one, or more than one.
-use Rattle.std.proofs.Common.{◌≤◌, List, [], length, sym, subst, ◌∙◌}
+use Rattle.std.proofs.Common.{◌≤◌, List, length, sym, subst, ◌∙◌}
 use Rattle.ql_syntax.specs.declared.syntax.FromSet.{FromSet}
 use Rattle.ql_syntax.specs.declared.syntax.Select.{out-Select}
-use Rattle.ql_exec.proofs.Exits.{none_is, sole_is}
+use Rattle.ql_exec.proofs.Few.{none_is, sole_is}
 use Rattle.ql_exec.proofs.Opened.{none_opens, none_types, sole_opens, sole_types, sole_there, several_later}
 use Rattle.ql_exec.proofs.select.open_rows.Goals as goal
 

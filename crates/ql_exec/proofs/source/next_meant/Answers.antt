@@ -1,6 +1,6 @@
 -- A row that WHERE does not mean, one that it means, and no row.
 use Rattle.std.proofs.Common.{refl, ◌∙◌, arith}
-use Rattle.ql_exec.specs.Turns.{rows_of, Rises}
+use Rattle.ql_exec.specs.Turns.{Rises}
 use Rattle.ql_exec.proofs.Turned.{same_start, meant_typed, rows_pass, over_here, fewer}
 use Rattle.ql_exec.proofs.source.next_meant.Goals as goal
 

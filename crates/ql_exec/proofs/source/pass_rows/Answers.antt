@@ -1,5 +1,5 @@
 -- All rows that are left are judged, up to the first that is refused.
-use Rattle.std.proofs.Common.{refl, arith}
+use Rattle.std.proofs.Common.{refl}
 use Rattle.ql_exec.specs.Turns.{Rises}
 use Rattle.ql_exec.proofs.Turned.{ends_start, over_here, fewer}
 use Rattle.ql_exec.proofs.source.pass_rows.Goals as goal
