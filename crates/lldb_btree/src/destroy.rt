@@ -26,6 +26,7 @@ fn first_child(bytes: &[u8]) -> Option<(u64, &[u8])>
 }
 
 /// Removes the node at a handle and all below it, with room for so many levels. It reads each node once.
+#[cycle(clear)]
 pub(crate) fn clear_node<H: Heap>(
     alloc: Global,
     heap: &mut H,
@@ -62,6 +63,7 @@ pub(crate) fn clear_node<H: Heap>(
 }
 
 /// Removes the nodes that the first of so many children name, and all below them, with room for so many levels.
+#[cycle(clear)]
 fn clear_children<H: Heap>(
     alloc: Global,
     heap: &mut H,
