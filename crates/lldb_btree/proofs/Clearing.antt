@@ -1,5 +1,5 @@
 -- Nodes that are removed, and what is left of the heap.
-use Rattle.std.proofs.Common.{◌≡◌, ⊎_elim, ℕ, zero, suc, ◌+◌, ◌-◌, ◌<◌, ◌≤◌, Bool, true, false, cond, eqb, List, [], ◌∷◌, ◌++◌, length, map, Option, Some, None, IfSome, Result, Ok, Err, OnOk, refl, sym, ap, ◌∙◌, arith, length-append}
+use Rattle.std.proofs.Common.{◌≡◌, ⊎_elim, ℕ, zero, suc, ◌+◌, ◌-◌, ◌<◌, ◌≤◌, Bool, true, false, cond, eqb, List, [], ◌∷◌, ◌++◌, length, map, Option, Some, None, IfSome, Result, OnOk, refl, sym, ap, ◌∙◌, arith, length-append}
 use Rattle.std.specs.declared.cmp.Ordering.{Ordering}
 use Rattle.std.specs.declared.cmp.Ordering.TheVariants.{Less, Equal, Greater}
 use Rattle.std.specs.Cmp.{nat_cmp_total, tied_itself}
@@ -22,15 +22,12 @@ use Rattle.lldb_btree.specs.Pairs.{FitsPair}
 use Rattle.lldb_btree.specs.Trees.{Part, child_of, pairs_of, footprint_of, IsCleared}
 use Rattle.lldb_btree.proofs.Ahead.{rises_left, rises_right}
 use Rattle.lldb_btree.proofs.Below.{NoEdit, HeadRead, as_leaf, as_inner, clash}
+use Rattle.lldb_btree.proofs.Decodes.{on_ok}
 use Rattle.lldb_btree.proofs.Edited.{Live, times_append, times_self, times_there, edits_in, edits_then, edit_stays}
 use Rattle.lldb_btree.proofs.Moved.{Agree, all_live, all_moved}
 use Rattle.lldb_btree.proofs.Puts.{eqb_self, eqb_apart, apart_from}
 use Rattle.lldb_btree.proofs.Standing.{all_left, all_right, parts_count, greatest_fits}
 use Rattle.lldb_btree.proofs.Steps.{Got}
-
-on_ok : {T : Type 0} (P Q : Type 0) (r : Result T Trouble) → (P → Q) → OnOk r P → OnOk r Q
-on_ok P Q (Ok x) f p = f p
-on_ok P Q (Err e) f p = tt
 
 tied : (h x : ℕ) (o : Ordering) → nat_cmp h x ≡ o → is_eq o ≡ true → h ≡ x
 tied h x Less is yes = absurd (cc (yes))
@@ -82,7 +79,7 @@ foot_cleared now m us ts e c = rw e c
 
 -- a leaf is removed
 pub leaf_cleared : (told read now : Option Contents) (handle room : ℕ) (bytes rest : List ℕ) (leaf : Bool) (n : ℕ) (r : Result (Unit {0}) Trouble) → Got told handle bytes → HeadRead bytes leaf n rest → leaf ≡ true → read ≡ told → IfSome read AreContents → OnOk r (Removed read now handle) → (m : Contents) (d least : ℕ) (p : Part) → CanEdit told m d least p handle room → OnOk r (IsCleared now m p.footprint)
-leaf_cleared told read now handle room bytes rest leaf n r got head on same all gone m zero least p e = on_ok (Removed read now handle) (IsCleared now m p.footprint) r (λ g. foot_cleared now m (handle ∷ []) p.footprint (foot_here told m zero least handle room p [] e e.walk.stands.over.1) (removed_here read now m handle (spelling e.walk.stands.node) (same ∙ e.walk.is) (held_here told m zero least handle room p e) all g)) gone
+leaf_cleared told read now handle room bytes rest leaf n r got head on same all gone m zero least p e = on_ok {P = Removed read now handle} {Q = IsCleared now m p.footprint} r (λ g. foot_cleared now m (handle ∷ []) p.footprint (foot_here told m zero least handle room p [] e e.walk.stands.over.1) (removed_here read now m handle (spelling e.walk.stands.node) (same ∙ e.walk.is) (held_here told m zero least handle room p e) all g)) gone
 leaf_cleared told read now handle room bytes rest leaf n r got head on same all gone m (suc d) least p e = clash leaf on (as_inner told handle room bytes rest leaf n got head m d least p e).0
 
 -- a handle that stands is live
@@ -151,7 +148,7 @@ one_live m h content held n some none = ⊎_elim
 pub inner_cleared : (told read mid now : Option Contents) (handle room : ℕ) (bytes rest : List ℕ) (leaf : Bool) (n : ℕ) (r : Result (Unit {0}) Trouble) → Got told handle bytes → HeadRead bytes leaf n rest → leaf ≡ false → read ≡ told → ChildrenGone read mid rest n (room - 1) → IfSome mid AreContents → OnOk r (Removed mid now handle) → (m : Contents) (d least : ℕ) (p : Part) → CanEdit told m d least p handle room → OnOk r (IsCleared now m p.footprint)
 inner_cleared told read mid now handle room bytes rest leaf n r got head off same children all gone m d least p e =
     let a : Alone told mid m handle p = alone told read mid handle room bytes rest leaf n got head off same children m d least p e in
-    on_ok (Removed mid now handle) (IsCleared now m p.footprint) r
+    on_ok {P = Removed mid now handle} {Q = IsCleared now m p.footprint} r
     (λ g.
       let x : IsCleared now a.gone.new (handle ∷ []) = removed_here mid now a.gone.new handle a.content a.gone.told a.stays all g in
       record { new = x.new; told = x.told; edits = clear_then m a.gone.new x.new a.under (handle ∷ []) p.footprint (one_live m handle a.content a.held) (λ k. omega (arith, ap (times k) a.foot)) e.once a.gone.edits x.edits })
@@ -244,7 +241,7 @@ children_cleared told mid now many room handle bytes rest r some first gone more
 children_cleared told mid now many room handle bytes rest r some first gone more m d (q ∷ qs) c =
     let f = first (child_of q) (body (map child_entry (map child_of qs))) (first_fits told m d many room q qs bytes c) c.spelled in
     let x : IsCleared mid m q.footprint = gone m d 16 q (first_edit told m d many room handle q qs bytes c f.0) in
-    on_ok (IsCleared now x.new (footprint_of qs)) (IsCleared now m (footprint_of (q ∷ qs))) r
+    on_ok {P = IsCleared now x.new (footprint_of qs)} {Q = IsCleared now m (footprint_of (q ∷ qs))} r
     (λ y. record { new = y.new; told = y.told; edits = clear_then m x.new y.new q.footprint (footprint_of qs) (footprint_of (q ∷ qs)) (all_live m d qs c.each.1) (λ n. omega (arith, times_append n q.footprint (footprint_of qs))) c.once x.edits y.edits })
     (more x.new d qs (others told mid m d many room q qs bytes rest c f.1 x))
 
