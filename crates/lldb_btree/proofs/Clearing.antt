@@ -82,13 +82,6 @@ pub leaf_cleared : (told read now : Option Contents) (handle room : ℕ) (bytes 
 leaf_cleared told read now handle room bytes rest leaf n r got head on same all gone m zero least p e = on_ok {P = Removed read now handle} {Q = IsCleared now m p.footprint} r (λ g. foot_cleared now m (handle ∷ []) p.footprint (foot_here told m zero least handle room p [] e e.walk.stands.over.1) (removed_here read now m handle (spelling e.walk.stands.node) (same ∙ e.walk.is) (held_here told m zero least handle room p e) all g)) gone
 leaf_cleared told read now handle room bytes rest leaf n r got head on same all gone m (suc d) least p e = clash leaf on (as_inner told handle room bytes rest leaf n got head m d least p e).0
 
--- a handle that stands is live
-pub dead_here : (told read : Option Contents) (handle room : ℕ) → read ≡ told → MayBeDead handle read → NoEdit told handle room
-dead_here told read handle room same dead m d least p e =
-    let none : content_of handle m ≡ None = rw (same ∙ e.walk.is) at dead in
-    let both : Some (spelling e.walk.stands.node) ≡ None = sym (held_here told m d least handle room p e) ∙ none in
-    absurd (cc (both))
-
 -- the children of a node that was read
 children_here : (told read : Option Contents) (handle room : ℕ) (bytes rest : List ℕ) (leaf : Bool) (n : ℕ) → Got told handle bytes → HeadRead bytes leaf n rest → read ≡ told → (m : Contents) (d least : ℕ) (p : Part) (e : CanEdit told m (suc d) least p handle room) → CanClear read m d e.walk.stands.over.parts rest n (room - 1)
 children_here told read handle room bytes rest leaf n got head same m d least p e =
@@ -214,10 +207,6 @@ others told now m d many room q qs bytes rest c is x =
 -- what stands under a handle is gone
 abbrev pub NodeGone : Option Contents → Option Contents → ℕ → ℕ → Type 0
 NodeGone told now handle room = (m : Contents) (d least : ℕ) (p : Part) → CanEdit told m d least p handle room → IsCleared now m p.footprint
-
-pub no_children : (told : Option Contents) (many room : ℕ) (bytes : List ℕ) → many ≡ 0 → (m : Contents) (d : ℕ) (parts : List Part) → CanClear told m d parts bytes many room → IsCleared told m (footprint_of parts)
-no_children told many room bytes none m d [] c = record { new = m; told = c.is; edits = record { rest = λ n. refl; once = λ n. omega arith } }
-no_children told many room bytes none m d (q ∷ qs) c = absurd (omega (arith, none, c.counted))
 
 pub firstless : (told : Option Contents) (many room : ℕ) (bytes : List ℕ) → (many ≡ 0 → ⊥) → ((c : Child) (more : List ℕ) → FitsChild c → bytes ≡ entry_bytes (child_entry c) ++ more → ⊥) → NoClear told bytes many room
 firstless told many room bytes some none m d [] c = some (sym c.counted)
