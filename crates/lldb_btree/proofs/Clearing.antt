@@ -30,9 +30,9 @@ use Rattle.lldb_btree.proofs.Standing.{all_left, all_right, parts_count, greates
 use Rattle.lldb_btree.proofs.Steps.{Got}
 
 tied : (h x : ℕ) (o : Ordering) → nat_cmp h x ≡ o → is_eq o ≡ true → h ≡ x
-tied h x Less is yes = absurd (cc (yes))
-tied h x Equal is yes = ranked h x Equal (sym is)
-tied h x Greater is yes = absurd (cc (yes))
+tied h x Less is on = absurd (cc (on))
+tied h x Equal is on = ranked h x Equal (sym is)
+tied h x Greater is on = absurd (cc (on))
 
 same_test : (h x y : ℕ) → is_at (nat_cmp h) x ≡ true → is_at (nat_cmp h) y ≡ eq_by_cmp nat_cmp x y
 same_test h x y on = ap (λ (k : ℕ). is_eq (nat_cmp k y)) (tied h x (nat_cmp h x) refl on)

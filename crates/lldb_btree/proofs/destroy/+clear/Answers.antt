@@ -46,7 +46,7 @@ clear_children-returns-in_default-clause-refuses g t c =
 
 pub clear_children-returns-in_err-clear_node-clause-refuses : goal.clear_children-returns-in_err-clear_node-clause-refuses
 clear_children-returns-in_err-clear_node-clause-refuses g t c =
-    refuses_exit (Unit {0}) (Unit {0}) (NoEdit (g.H.Heap.map_of c.args.heap.now) c.in-Some.handle c.args.room) (NoClear (g.H.Heap.map_of c.args.heap.now) c.args.bytes.now c.args.count c.args.room) c.from_residual-in_err-clear_node.result c.in_err-clear_node.field-0.0 c.from_residual-in_err-clear_node.ensures.1 (first_refused (g.H.Heap.map_of c.args.heap.now) c.args.count c.args.room c.in-Some.handle c.args.bytes.now c.in-Some.rest.now (λ z. absurd (omega (arith, z, c.if-count-eq0.false))) c.in-Some.ensures) c.in_err-clear_node.ensures.refuses
+    refuses_exit (Unit {0}) (Unit {0}) (NoEdit (g.H.Heap.map_of c.args.heap.now) c.in-Some.handle c.args.room) (NoClear (g.H.Heap.map_of c.args.heap.now) c.args.bytes.now c.args.count c.args.room) c.from_residual.result c.in_err-clear_node.field-0.0 c.from_residual.ensures.1 (first_refused (g.H.Heap.map_of c.args.heap.now) c.args.count c.args.room c.in-Some.handle c.args.bytes.now c.in-Some.rest.now (λ z. absurd (omega (arith, z, c.if-count-eq0.false))) c.in-Some.ensures) c.in_err-clear_node.ensures.refuses
 
 pub clear_children-returns-in_err-clear_node-clause-reads : goal.clear_children-returns-in_err-clear_node-clause-reads
 clear_children-returns-in_err-clear_node-clause-reads g t c =
