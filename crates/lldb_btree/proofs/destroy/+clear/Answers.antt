@@ -13,7 +13,7 @@ clear_node-returns-in_default-clause-refuses g t c =
 pub clear_node-returns-then-leaf-clause-cleared : goal.clear_node-returns-then-leaf-clause-cleared
 clear_node-returns-then-leaf-clause-cleared g t c =
     let got : Got (g.H.Heap.map_of c.args.heap.now) c.args.handle c.as_slice.result.now = rw c.as_slice.ensures c.in_ok-read.ensures.read in
-    leaf_cleared (g.H.Heap.map_of c.args.heap.now) (g.H.Heap.map_of c.read.new.self) (g.H.Heap.map_of c.remove.new.self) c.args.handle c.args.room c.as_slice.result.now c.in-Some.bytes.now c.in-Some.leaf c.in-Some.count c.remove.result got c.in-Some.ensures.whole c.if-leaf.true c.read.ensures.map (g.H.Heap.contents c.read.new.self (c.read.ensures.ready ∙ c.requires.ready)) c.remove.ensures.removed
+    leaf_cleared (g.H.Heap.map_of c.args.heap.now) (g.H.Heap.map_of c.read.new.self) (g.H.Heap.map_of c.remove.new.self) c.args.handle c.args.room c.as_slice.result.now c.in-Some.bytes.now c.in-Some.leaf c.in-Some.count c.remove.result got c.in-Some.ensures.whole c.if-leaf.true c.read.ensures.map (g.met.H.Heap.contents c.read.new.self (c.read.ensures.ready ∙ c.requires.ready)) c.remove.ensures.removed
 
 pub clear_node-returns-in_err-clear_children-clause-refuses : goal.clear_node-returns-in_err-clear_children-clause-refuses
 clear_node-returns-in_err-clear_children-clause-refuses g t c =
@@ -23,7 +23,7 @@ clear_node-returns-in_err-clear_children-clause-refuses g t c =
 pub clear_node-returns-clause-cleared : goal.clear_node-returns-clause-cleared
 clear_node-returns-clause-cleared g t c =
     let got : Got (g.H.Heap.map_of c.args.heap.now) c.args.handle c.as_slice.result.now = rw c.as_slice.ensures c.in_ok-read.ensures.read in
-    inner_cleared (g.H.Heap.map_of c.args.heap.now) (g.H.Heap.map_of c.read.new.self) (g.H.Heap.map_of c.clear_children.new.heap) (g.H.Heap.map_of c.remove-2.new.self) c.args.handle c.args.room c.as_slice.result.now c.in-Some.bytes.now c.in-Some.leaf c.in-Some.count c.remove-2.result got c.in-Some.ensures.whole c.if-leaf.false c.read.ensures.map c.in_ok-clear_children.ensures.cleared (g.H.Heap.contents c.clear_children.new.heap c.in_ok-clear_children.ensures.ready) c.remove-2.ensures.removed
+    inner_cleared (g.H.Heap.map_of c.args.heap.now) (g.H.Heap.map_of c.read.new.self) (g.H.Heap.map_of c.clear_children.new.heap) (g.H.Heap.map_of c.remove-2.new.self) c.args.handle c.args.room c.as_slice.result.now c.in-Some.bytes.now c.in-Some.leaf c.in-Some.count c.remove-2.result got c.in-Some.ensures.whole c.if-leaf.false c.read.ensures.map c.in_ok-clear_children.ensures.cleared (g.met.H.Heap.contents c.clear_children.new.heap c.in_ok-clear_children.ensures.ready) c.remove-2.ensures.removed
 
 pub clear_node-returns-clause-refuses : goal.clear_node-returns-clause-refuses
 clear_node-returns-clause-refuses g t c =
