@@ -143,8 +143,8 @@ inner_cleared told read mid now handle room bytes rest leaf n r got head off sam
     let a : Alone told mid m handle p = alone told read mid handle room bytes rest leaf n got head off same children m d least p e in
     on_ok {P = Removed mid now handle} {Q = IsCleared now m p.footprint} r
     (λ g.
-      let x : IsCleared now a.gone.new (handle ∷ []) = removed_here mid now a.gone.new handle a.content a.gone.told a.stays all g in
-      record { new = x.new; told = x.told; edits = clear_then m a.gone.new x.new a.under (handle ∷ []) p.footprint (one_live m handle a.content a.held) (λ k. omega (arith, ap (times k) a.foot)) e.once a.gone.edits x.edits })
+    let x : IsCleared now a.gone.new (handle ∷ []) = removed_here mid now a.gone.new handle a.content a.gone.told a.stays all g in
+    record { new = x.new; told = x.told; edits = clear_then m a.gone.new x.new a.under (handle ∷ []) p.footprint (one_live m handle a.content a.held) (λ k. omega (arith, ap (times k) a.foot)) e.once a.gone.edits x.edits })
     gone
 
 pub inner_dead : (told read mid : Option Contents) (handle room : ℕ) (bytes rest : List ℕ) (leaf : Bool) (n : ℕ) → Got told handle bytes → HeadRead bytes leaf n rest → leaf ≡ false → read ≡ told → ChildrenGone read mid rest n (room - 1) → MayBeDead handle mid → NoEdit told handle room
