@@ -58,13 +58,13 @@ LeafRead n rest pairs = AllByRecursion FitsPair pairs × (length pairs ≡ n) ×
 abbrev pub InnerRead : ℕ → List ℕ → List Child → Type 0
 InnerRead n rest children = AllByRecursion FitsChild children × (0 < length children) × (length children ≡ n) × (rest ≡ body (map child_entry children))
 
-as_leaf : (told : Option Contents) (handle room : ℕ) (bytes rest : List ℕ) (leaf : Bool) (n : ℕ) → Got told handle bytes → HeadRead bytes leaf n rest → (m : Contents) (least : ℕ) (p : Part) → CanEdit told m zero least p handle room → (leaf ≡ true) × LeafRead n rest p.pairs
+pub as_leaf : (told : Option Contents) (handle room : ℕ) (bytes rest : List ℕ) (leaf : Bool) (n : ℕ) → Got told handle bytes → HeadRead bytes leaf n rest → (m : Contents) (least : ℕ) (p : Part) → CanEdit told m zero least p handle room → (leaf ≡ true) × LeafRead n rest p.pairs
 as_leaf told handle room bytes rest leaf n got head m least p e =
     let is : bytes ≡ spelling (Leaf p.pairs) = node_got told m zero least handle room p bytes e.walk got ∙ ap spelling e.walk.stands.over.0 in
     let h = head true (length p.pairs) (body (map pair_entry p.pairs)) is in
     (h.0, (e.walk.sorted.fits, sym h.1, h.2))
 
-as_inner : (told : Option Contents) (handle room : ℕ) (bytes rest : List ℕ) (leaf : Bool) (n : ℕ) → Got told handle bytes → HeadRead bytes leaf n rest → (m : Contents) (d least : ℕ) (p : Part) (e : CanEdit told m (suc d) least p handle room) → (leaf ≡ false) × InnerRead n rest (map child_of e.walk.stands.over.parts)
+pub as_inner : (told : Option Contents) (handle room : ℕ) (bytes rest : List ℕ) (leaf : Bool) (n : ℕ) → Got told handle bytes → HeadRead bytes leaf n rest → (m : Contents) (d least : ℕ) (p : Part) (e : CanEdit told m (suc d) least p handle room) → (leaf ≡ false) × InnerRead n rest (map child_of e.walk.stands.over.parts)
 as_inner told handle room bytes rest leaf n got head m d least p e =
     let is : bytes ≡ spelling (Inner (map child_of e.walk.stands.over.parts)) = node_got told m (suc d) least handle room p bytes e.walk got ∙ ap spelling e.walk.stands.over.named in
     let h = head false (length (map child_of e.walk.stands.over.parts)) (body (map child_entry (map child_of e.walk.stands.over.parts))) is in
@@ -179,7 +179,7 @@ pub record Goes (read : Option Contents) (m : Contents) (d least room many : ℕ
 abbrev pub AllGo : Option Contents → Option Contents → ℕ → ℕ → ℕ → List ℕ → List ℕ → List ℕ → ℕ → Type 0
 AllGo told read handle room many k front back child = (m : Contents) (d least : ℕ) (p : Part) → CanEdit told m d least p handle room → Goes read m d least room many p k front back child
 
-edit_kept : (told now : Option Contents) (m : Contents) (d least handle room : ℕ) (p : Part) → now ≡ told → CanEdit told m d least p handle room → CanEdit now m d least p handle room
+pub edit_kept : (told now : Option Contents) (m : Contents) (d least handle room : ℕ) (p : Part) → now ≡ told → CanEdit told m d least p handle room → CanEdit now m d least p handle room
 edit_kept told now m d least handle room p same e = record { walk = walk_kept told now m d least handle room p same e.walk; once = e.once }
 
 pub goes : (told read : Option Contents) (handle room : ℕ) (bytes rest : List ℕ) (leaf : Bool) (n : ℕ) (k front back : List ℕ) (child : ℕ) → Got told handle bytes → HeadRead bytes leaf n rest → leaf ≡ false → WayRead k rest n front child back → read ≡ told → AllGo told read handle room n k front back child
