@@ -1,4 +1,0 @@
-use Rattle.lldb_alloc.proofs.write.lay.Goals as goal
-
-pub returns : goal.returns
-returns c = ?
