@@ -173,11 +173,14 @@ table_told None after t long zeros none is = tt
 table_told (Some (b ∷ c)) after t long zeros none is = absurd (omega (arith, none))
 table_told (Some []) after t long zeros none is = subst (λ (o : Option (List ℕ)). IsSomeAnd o (λ d. NewTable [] d)) (sym is) (subst (λ (d : List ℕ). Lays d []) (sym (put_end [] t)) (lays_new t long zeros))
 
-zeros : (n i : ℕ) → get_or (replicate n 0) i 0 ≡ 0
-zeros n i = elim (cases_lt i n) [
-  | inl within ↦ get_or-replicate n i 0 0 within
-  | inr past ↦ get_or_past (replicate n 0) i 0 (let long = length-replicate n 0 in omega (arith, long, past))
-]
+zeros : (n i : ℕ) → ◌≡◌ {A = ℕ} (get_or (replicate n 0) i 0) 0
+zeros n i =
+    let zero : ℕ = 0 in
+    let long = length-replicate {A = ℕ} n 0 in
+    elim (cases_lt i n) [
+      | inl within ↦ get_or-replicate n i zero zero within
+      | inr past ↦ get_or_past (replicate n zero) i zero (omega (arith, long, past))
+    ]
 
 pub table_zeros : (before after : Option (List ℕ)) (size : ℕ) → size ≡ 0 → IfSome before (λ c. length c ≡ size) → after ≡ option_map (put 0 (replicate 128 0)) before → Turns before after NewTable
-table_zeros before after size none long is = table_told before after (replicate 128 0) (length-replicate 128 0) (zeros 128) (subst (λ (k : ℕ). IfSome before (λ c. length c ≡ k)) none long) is
+table_zeros before after size none long is = table_told before after (replicate 128 0) (length-replicate {A = ℕ} 128 0) (zeros 128) (subst (λ (k : ℕ). IfSome before (λ c. length c ≡ k)) none long) is

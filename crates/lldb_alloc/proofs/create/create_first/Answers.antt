@@ -24,7 +24,7 @@ returns-in_err-write_table-clause-refuses g c =
     let long : IfSome told (λ b. length b ≡ 0) = subst (λ (k : ℕ). IfSome told (λ b. length b ≡ k)) c.requires.empty (g.met.F.Filer.told_size c.args.filer.now c.requires.sound) in
     let most = none_empty told long in
     let some = atoms_some (length c.args.content.now) in
-    let table : cond (eqb size 0) 128 0 ≡ 128 = cond-true (eqb size 0) 128 0 (eq-eqb size 0 c.requires.empty) in
+    let table : ◌≡◌ {A = ℕ} (cond (eqb size 0) 128 0) 128 = cond-true (eqb size 0) 128 0 (eq-eqb size 0 c.requires.empty) in
     let P : Result ℕ Trouble → Type 0 = λ r. Refuses (IsFull atoms (most_free_told told) size now (Some limit)) ⊥ r in
     by_error P c.from_residual.result c.in_err-write_table.field-0.0 c.from_residual.ensures.1
     (over_full (Unit {0}) ℕ ⊥ atoms (most_free_told told) size now 0 limit limit 128
@@ -41,7 +41,7 @@ returns-in_err-write_used-clause-refuses g c =
     let long : IfSome told (λ b. length b ≡ 0) = subst (λ (k : ℕ). IfSome told (λ b. length b ≡ k)) c.requires.empty (g.met.F.Filer.told_size c.args.filer.now c.requires.sound) in
     let most = none_empty told long in
     let some = atoms_some (length c.args.content.now) in
-    let table : cond (eqb size 0) 128 0 ≡ 128 = cond-true (eqb size 0) 128 0 (eq-eqb size 0 c.requires.empty) in
+    let table : ◌≡◌ {A = ℕ} (cond (eqb size 0) 128 0) 128 = cond-true (eqb size 0) 128 0 (eq-eqb size 0 c.requires.empty) in
     let same : now ≡ here = c.in_err-write_used.ensures.size_kept in
     let full : here ≡ 128 = c.in_ok-write_table.ensures.size in
     let P : Result ℕ Trouble → Type 0 = λ r. Refuses (IsFull atoms (most_free_told told) size now (Some limit)) ⊥ r in
