@@ -11,6 +11,4 @@ pub mod Parts
 pub mod Finds
 pub mod Spelled
 pub mod Created
-pub mod Gaps
-pub mod Removed
 pub mod Fulls

@@ -3,5 +3,3 @@ pub mod Reads
 pub mod Told
 pub mod Changes
 pub mod Room
-pub mod Releases
-pub mod Removals
