@@ -1,10 +1,13 @@
 -- A hole takes in its free neighbours, and is given up.
-use Rattle.std.proofs.Common.{◌≡◌, ℕ, suc, ◌+◌, ◌-◌, ◌*◌, ◌<◌, ◌≤◌, ◌^◌, Bool, true, false, cond, leb, eqb, List, [], ◌∷◌, ◌++◌, length, take, drop, get_or, Option, Some, None, IfSome, option_map, Ok, refl, sym, ◌∙◌, ap, subst, inl, inr, arith, append_assoc, length-append, take_at, drop_at, le-leb, eq-eqb, ne_eqb, get_or-drop}
+use Rattle.std.proofs.Common.{◌≡◌, ℕ, suc, ◌+◌, ◌-◌, ◌*◌, ◌<◌, ◌≤◌, ◌^◌, Bool, true, false, cond, leb, eqb, List, [], ◌∷◌, ◌++◌, length, take, drop, get_or, Option, Some, None, IfSome, option_map, Result, Ok, Err, refl, sym, ◌∙◌, ap, subst, inl, inr, arith, append_assoc, length-append, take_at, drop_at, le-leb, eq-eqb, ne_eqb, get_or-drop}
 use Rattle.std.specs.Option.{IsSomeAnd}
-use Rattle.std.specs.Prelude.{◌⊎◌, slice_index}
+use Rattle.std.specs.Prelude.{◌⊎◌, slice_index, ⊤}
 use Rattle.std.proofs.Math.Seq.{get_or-append_seam}
 use Rattle.std.proofs.lemmas.List.{drop-take, length-take-le, take-append-drop}
 use Rattle.std.proofs.lemmas.Bool.{cases_lt, cases_eq, cond-true, cond-false, lt-leb, false≢true, and_parts}
+use Rattle.lldb_base.specs.declared.trouble.Trouble.{Trouble}
+use Rattle.lldb_base.specs.declared.trouble.Trouble.TheVariants as trouble
+use Rattle.lldb_base.specs.Trouble.{Refuses}
 use Rattle.lldb_atoms.specs.Numbers.{as_bytes, number_in}
 use Rattle.lldb_atoms.specs.declared.block.Block.{Block}
 use Rattle.lldb_atoms.specs.declared.block.Block.TheVariants as block
@@ -51,6 +54,14 @@ not_by_head p n b (Hole s) not is = refl
 pub tells_none : (told : Option (List ℕ)) (at : ℕ) (b : Block) → ((s a k : ℕ) → b ≡ free_head s a k → ⊥) → IfSome told (HasBlock at (Ok b)) → IfSome told (TellsFree at false)
 tells_none None at b not has = tt
 tells_none (Some c) at b not has = λ h p n x e y place known spells. not_by_head (p at) (n at) b e not (has h p n x e y place known spells)
+
+-- a head that was refused
+pub refused_block : (told : Option (List ℕ)) (at : ℕ) (t : Trouble) → Refuses {T = Block} (λ _ _. ⊥) ⊤ (Err t) → IfSome told (HasBlock at (Err t)) → Refuses {T = Bool} (λ _ _. ⊥) (IfSome told (LacksBlock at)) (Err t)
+refused_block told at trouble.Failed refuses has = tt
+refused_block told at trouble.NoMemory refuses has = tt
+refused_block told at (trouble.Full a b) refuses has = refuses
+refused_block None at trouble.Damaged refuses has = tt
+refused_block (Some c) at trouble.Damaged refuses has = λ h p n x e y place known spells. has h p n x e y place known spells
 
 -- no hole with a block behind it
 behind_hole : (x y : List Extent) (e : Extent) (at atoms : ℕ) → at ≡ 8 + atoms_in x → at + atoms ≡ 8 + atoms_in (x ++ Hole atoms ∷ [])
