@@ -6,15 +6,12 @@ use Rattle.std.specs.Prelude.{replicate}
 use Rattle.std.specs.Option.{IsSomeAnd}
 use Rattle.lldb_base.specs.Batch.{put}
 use Rattle.lldb_base.specs.Contents.{Contents, content_of, with_content, atoms_for}
-use Rattle.lldb_base.specs.Heaps.{IsFull}
-use Rattle.lldb_base.specs.Trouble.{IsOver}
 use Rattle.lldb_atoms.specs.Blocks.{Extent, Used, Free, Hole, Tile}
 use Rattle.lldb_atoms.specs.Rows.{atoms_in, extent_at, contains, targets, heap}
 use Rattle.lldb_atoms.specs.Lists.{row_of}
 use Rattle.lldb_atoms.specs.Sound.{sound_tiling, heap_in, tiling}
 use Rattle.lldb_atoms.proofs.Says.{atoms_some}
 use Rattle.lldb_blocks.specs.Laid.{Solid, Lays, AtRest}
-use Rattle.lldb_blocks.specs.Steps.{largest}
 use Rattle.lldb_blocks.proofs.Looks.{found, look_past}
 use Rattle.lldb_blocks.proofs.Heaps.{heap_at, meant}
 use Rattle.lldb_blocks.proofs.Lays.{lays_filled, lays_grown, lays_length}
@@ -24,7 +21,7 @@ use Rattle.lldb_blocks.proofs.Readings.{lays_new, rest_new}
 use Rattle.lldb_blocks.proofs.Calls.{made_whole, made_part, made_last, empty_row}
 use Rattle.lldb_alloc.specs.Changes.{Turns, LacksRow, LacksPart, TakesPart, WritesUsed, NewTable, left_over}
 use Rattle.lldb_alloc.specs.Room.{FindsRoom, most_in, most_free_told}
-use Rattle.lldb_alloc.specs.Told.{heap_told, Creates, Rested}
+use Rattle.lldb_alloc.specs.Told.{heap_told, Creates}
 use Rattle.lldb_alloc.proofs.Parts.{left_none, left_some}
 use Rattle.lldb_alloc.proofs.ToldHeaps.{rested, no_contents}
 

@@ -1,17 +1,15 @@
 -- Where there is room.
-use Rattle.std.proofs.Common.{◌≡◌, ℕ, ◌+◌, ◌<◌, ◌≤◌, true, List, [], ◌∷◌, ◌++◌, Option, Some, None, IfSome, Result, Ok, Err, OnOk, refl, sym, ◌∙◌, ap, subst, inl, inr, arith, eqb, ne_eqb, false}
-use Rattle.std.specs.Prelude.{IfOk}
+use Rattle.std.proofs.Common.{◌≡◌, ℕ, ◌+◌, ◌≤◌, true, List, [], ◌∷◌, Option, Some, None, IfSome, sym, ◌∙◌, ap, subst, inl, inr, arith, ne_eqb}
 use Rattle.std.proofs.lemmas.Bool.{cases_eq, cases_lt, false≢true}
 use Rattle.lldb_atoms.specs.Blocks.{Extent, Free}
-use Rattle.lldb_atoms.specs.Rows.{atoms_in, extent_at, contains}
-use Rattle.lldb_atoms.specs.Lists.{class_of, in_class, list_head}
+use Rattle.lldb_atoms.specs.Rows.{extent_at, contains}
+use Rattle.lldb_atoms.specs.Lists.{class_of, in_class}
 use Rattle.lldb_blocks.specs.Links.{first}
-use Rattle.lldb_blocks.specs.Laid.{Lays}
 use Rattle.lldb_blocks.proofs.Chains.{has_head}
 use Rattle.lldb_blocks.proofs.Bridges.{head_read}
 use Rattle.lldb_blocks.proofs.Readings.{class_rises, fits_nowhere}
-use Rattle.lldb_alloc.specs.Room.{FindsIn, FirstFrom, HasRoom, FindsRoom}
-use Rattle.lldb_alloc.proofs.Lists.{Place, placed}
+use Rattle.lldb_alloc.specs.Room.{FindsIn, FirstFrom, FindsRoom}
+use Rattle.lldb_alloc.proofs.Lists.{placed}
 use Rattle.lldb_alloc.proofs.Walked.{place_look}
 
 -- a free block of a class is that of the row

@@ -1,5 +1,5 @@
 -- The bytes of a used block as they are written.
-use Rattle.std.proofs.Common.{◌≡◌, ℕ, ◌+◌, ◌-◌, ◌*◌, ◌/◌, ◌<◌, ◌≤◌, cond, leb, List, [], ◌∷◌, ◌++◌, length, take, drop, Option, Some, None, option_map, refl, sym, ◌∙◌, ap, subst, inl, inr, arith, append_assoc, append-nil, length-append, take_at, le-leb}
+use Rattle.std.proofs.Common.{◌≡◌, ℕ, ◌+◌, ◌-◌, ◌*◌, ◌/◌, ◌<◌, ◌≤◌, leb, List, [], ◌∷◌, ◌++◌, length, take, drop, Option, Some, None, option_map, refl, sym, ◌∙◌, ap, subst, inl, inr, arith, append_assoc, append-nil, length-append, take_at, le-leb}
 use Rattle.std.proofs.lemmas.Bool.{cases_lt, cond-true, cond-false, lt-leb}
 use Rattle.std.proofs.lemmas.List.{length-drop, length-take-le}
 use Rattle.std.proofs.Math.ListN.{drop_of_length-le}
@@ -8,7 +8,6 @@ use Rattle.lldb_base.specs.Batch.{put}
 use Rattle.lldb_base.specs.Contents.{atoms_for}
 use Rattle.lldb_atoms.specs.declared.block.Block.{Block}
 use Rattle.lldb_atoms.specs.declared.block.Block.TheVariants as block
-use Rattle.lldb_atoms.specs.Numbers.{as_bytes}
 use Rattle.lldb_atoms.specs.Heads.{head_of}
 use Rattle.lldb_atoms.specs.Blocks.{Used, used_head, IsBlock}
 use Rattle.lldb_atoms.proofs.AsBytes.{length-as_bytes}

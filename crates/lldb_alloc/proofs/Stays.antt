@@ -1,6 +1,6 @@
 -- What a stop may leave, over calls one after the other.
-use Rattle.std.proofs.Common.{◌≡◌, ℕ, List, Option, Some, None, IfSome, length, ◌≤◌, refl, sym, ◌∙◌, ap, subst, inl, inr, arith}
-use Rattle.ql_edge.specs.Stops.{IsSameBut, IsBetween, Adds}
+use Rattle.std.proofs.Common.{◌≡◌, ℕ, List, Option, refl, sym, ◌∙◌, subst, inl, inr, arith}
+use Rattle.ql_edge.specs.Stops.{IsSameBut, IsBetween}
 use Rattle.ql_edge.specs.Told.{Told}
 use Rattle.lldb_base.specs.Stops.{kept_of, same_but_self}
 use Rattle.lldb_alloc.specs.Frames.{KeepsStops, kept}

@@ -1,17 +1,14 @@
-use Rattle.std.proofs.Common.{◌≡◌, ℕ, ◌+◌, ◌*◌, ◌/◌, ◌<◌, ◌≤◌, cond, eqb, List, length, Option, Some, None, Result, IfSome, refl, sym, ◌∙◌, subst, arith, eq-eqb}
+use Rattle.std.proofs.Common.{◌≡◌, ℕ, ◌+◌, ◌*◌, cond, eqb, List, length, Option, Some, Result, IfSome, refl, subst, arith, eq-eqb}
 use Rattle.std.proofs.lemmas.Bool.{cond-true}
 use Rattle.lldb_base.specs.declared.trouble.Trouble.{Trouble}
 use Rattle.lldb_base.specs.Contents.{atoms_for}
 use Rattle.lldb_base.specs.Heaps.{IsFull}
 use Rattle.lldb_base.specs.Trouble.{Refuses}
 use Rattle.lldb_atoms.proofs.Says.{atoms_some}
-use Rattle.lldb_alloc.specs.Changes.{Turns, LacksPart, TakesPart}
-use Rattle.lldb_alloc.specs.Room.{FindsRoom, most_free_told}
-use Rattle.lldb_alloc.specs.Told.{heap_told}
+use Rattle.lldb_alloc.specs.Room.{most_free_told}
 use Rattle.lldb_alloc.proofs.Uses.{by_error}
-use Rattle.lldb_alloc.proofs.Lists.{refuses_more}
-use Rattle.lldb_alloc.proofs.Fulls.{not_over, over_full}
-use Rattle.lldb_alloc.proofs.Created.{part_unsound, created_within, created_behind, created_first, none_free, none_empty}
+use Rattle.lldb_alloc.proofs.Fulls.{over_full}
+use Rattle.lldb_alloc.proofs.Created.{created_first, none_empty}
 use Rattle.lldb_alloc.proofs.create.create_first.Goals as goal
 
 pub returns-in_err-write_table-clause-refuses : goal.returns-in_err-write_table-clause-refuses

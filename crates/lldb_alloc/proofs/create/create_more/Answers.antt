@@ -1,14 +1,14 @@
-use Rattle.std.proofs.Common.{◌≡◌, ℕ, ◌+◌, ◌*◌, ◌/◌, ◌<◌, ◌≤◌, List, length, Option, Some, None, Result, Err, IfSome, refl, sym, ◌∙◌, ap, subst, arith}
+use Rattle.std.proofs.Common.{◌≡◌, ℕ, ◌≤◌, List, length, Option, Some, None, Result, Err, IfSome, arith}
 use Rattle.lldb_base.specs.declared.trouble.Trouble.{Trouble}
 use Rattle.lldb_base.specs.Contents.{atoms_for}
 use Rattle.lldb_base.specs.Heaps.{IsFull}
 use Rattle.lldb_base.specs.Trouble.{Refuses}
 use Rattle.lldb_alloc.specs.Changes.{LacksRow}
-use Rattle.lldb_alloc.specs.Room.{FindsRoom, most_free_told}
+use Rattle.lldb_alloc.specs.Room.{most_free_told}
 use Rattle.lldb_alloc.specs.Told.{heap_told}
 use Rattle.lldb_alloc.proofs.Uses.{by_error}
 use Rattle.lldb_alloc.proofs.Lists.{refuses_more}
-use Rattle.lldb_alloc.proofs.Fulls.{never_full, full_same}
+use Rattle.lldb_alloc.proofs.Fulls.{never_full}
 use Rattle.lldb_alloc.proofs.Created.{rowless_unsound, uneven_unsound}
 use Rattle.lldb_alloc.proofs.create.create_more.Goals as goal
 

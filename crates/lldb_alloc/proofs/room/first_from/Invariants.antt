@@ -1,4 +1,4 @@
-use Rattle.std.proofs.Common.{◌≡◌, ℕ, ◌+◌, ◌-◌, ◌<◌, ◌≤◌, IfSome}
+use Rattle.std.proofs.Common.{◌≡◌, ℕ, ◌-◌, ◌<◌, ◌≤◌, IfSome}
 use Rattle.lldb_atoms.specs.Lists.{list_head}
 use Rattle.lldb_alloc.specs.Frames.{KeepsLevels, KeepsContent, KeepsStops}
 use Rattle.lldb_alloc.proofs.room.first_from.Given as goal
