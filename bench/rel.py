@@ -12,7 +12,7 @@ from timed import fastest
 TOP = os.path.dirname(os.path.dirname(os.path.abspath(__file__)))
 PROGRAM = os.path.join(TOP, "crates", "test_rel", "out", "test_rel")
 RUNS = 3  # the fastest of them counts
-ROWS, FEW, TABLES = 1_000_000, 40_000, 4096
+ROWS, MANY, FEW, TABLES = 1_000_000, 100_000, 40_000, 4096
 MEMORY = 400  # MB
 TABLE = ["begin", "CREATE TABLE t (a int64, b bool, c string)"]
 
@@ -28,6 +28,12 @@ CASES = [
         filled(FEW) + [f"remove 0 {row}" for row in range(5, FEW + 1, 5)] + ["walk 0"],
         f"{FEW - FEW // 5} {FEW - 1}",
         1.0,
+    ),
+    (
+        "all but 100 of 100,000 rows taken away one by one",
+        filled(MANY) + [f"remove 0 {row}" for row in range(1, MANY - 99)] + ["walk 0"],
+        f"100 {MANY}",
+        0.5,
     ),
     ("4,096 tables made", ["begin"] + [f"CREATE TABLE t{number} (a bool)" for number in range(TABLES)] + ["walk 4095"], "0 0", 1.0),
 ]

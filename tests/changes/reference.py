@@ -1,5 +1,5 @@
-"""What statements do to tables, a second time: CREATE TABLE, INSERT of rows, UPDATE, DELETE, TRUNCATE and DROP TABLE over
-columns of int64, and SELECT of fields over one table.
+"""What statements do to tables, a second time: CREATE TABLE, ALTER TABLE, INSERT of rows, UPDATE, DELETE, TRUNCATE and DROP
+TABLE over columns of int64, and SELECT of fields over one table.
 
 An expression is a pair: its text, and a function of a row (a dict of names, with "id()") that gives its value, None for NULL,
 or raises `Refused`. It is written from docs/LANGUAGE.md and not from the program.
@@ -87,17 +87,25 @@ class Tables:
             raise Refused(f"1 NoTable {name}")
         return self.tables[name]
 
-    def create(self, name, columns):
-        if name in self.tables:
+    def create(self, name, columns, quiet):
+        if name not in self.tables:
+            self.tables[name] = (columns, {})
+        elif not quiet:
             raise Refused(f"4 Exists {name}")
-        self.tables[name] = (columns, {})
 
-    def insert(self, name, rows):
+    def insert(self, name, named, rows):
+        """Rows for the columns that are named, or for all: every value is known before a row goes in."""
         columns, held = self.table(name)
-        if any(len(row) != len(columns) for row in rows):
+        for at, column in enumerate(named):
+            if column not in columns:
+                raise Refused(f"2 NoColumn {column}")
+            if column in named[:at]:
+                raise Refused(f"3 Ambiguous {column}")
+        targets = named or columns
+        if any(len(row) != len(targets) for row in rows):
             raise Refused("6 Count")
-        for values in [[part({}) for part in row] for row in rows]:
-            held[self.next_id] = values
+        for values in [dict(zip(targets, [part({}) for part in row])) for row in rows]:
+            held[self.next_id] = [values.get(column) for column in columns]
             self.next_id += 1
 
     def change(self, name, sets, where):
@@ -112,6 +120,24 @@ class Tables:
             else:
                 new = [(columns.index(column), part(row)) for column, part in sets]
                 held[id] = [dict(new).get(at, value) for at, value in enumerate(values)]
+
+    def add(self, name, column):
+        """A column more, NULL in each row."""
+        columns, held = self.table(name)
+        if column in columns:
+            raise Refused(f"4 Exists {column}")
+        self.tables[name] = ([*columns, column], {id: [*values, None] for id, values in held.items()})
+
+    def lose(self, name, column):
+        """A column less, with its values."""
+        columns, held = self.table(name)
+        if column not in columns:
+            raise Refused(f"2 NoColumn {column}")
+        if len(columns) == 1:
+            raise Refused("6 Count")
+        at = columns.index(column)
+        rows = {id: values[:at] + values[at + 1 :] for id, values in held.items()}
+        self.tables[name] = (columns[:at] + columns[at + 1 :], rows)
 
     def truncate(self, name):
         self.table(name)[1].clear()
@@ -151,6 +177,13 @@ class Script:
             return self.source.choice(there)
         return self.source.choice("tuvw")
 
+    def named(self, columns):
+        """Names for the columns of an INSERT: none, some in any order, or seldom one twice or one that is nowhere."""
+        if self.source.random() < 0.5:
+            return []
+        some = self.source.sample(columns, self.source.randint(1, len(columns)))
+        return some + self.source.choice([[some[0]], ["z"]]) if self.source.random() < 0.02 else some
+
     def where(self, columns):
         if self.source.random() < 0.15:
             return "", lambda row: True
@@ -164,14 +197,18 @@ class Script:
         choice = source.random()
         if not tables.tables or choice < 0.08:
             free = [each for each in "tuvw" if each not in tables.tables]
-            name = source.choice(free) if free and source.random() < 0.9 else source.choice("tuvw")
+            quiet = source.random() < 0.4
+            name = source.choice(free) if free and not quiet and source.random() < 0.9 else source.choice("tuvw")
             made = ["a", "b", "c"][: source.randint(1, 3)]
-            return f"CREATE TABLE {name} ({', '.join(f'{c} int64' for c in made)})", lambda: tables.create(name, made)
+            text = f"{'IF NOT EXISTS ' if quiet else ''}{name} ({', '.join(f'{c} int64' for c in made)})"
+            return f"CREATE TABLE {text}", lambda: tables.create(name, made, quiet)
         if choice < 0.4:
-            count = len(columns) if source.random() < 0.99 else len(columns) + 1
+            named = self.named(columns)
+            count = len(named or columns) + (source.random() < 0.01)
             rows = [[number(source, [], 1) for _ in range(count)] for _ in range(source.randint(1, 5))]
             text = ", ".join("(" + ", ".join(text for text, _ in row) + ")" for row in rows)
-            return f"INSERT INTO {name} VALUES {text}", lambda: tables.insert(name, [[part for _, part in row] for row in rows])
+            names = f" ({', '.join(named)})" if named else ""
+            return f"INSERT INTO {name}{names} VALUES {text}", lambda: tables.insert(name, named, [[part for _, part in row] for row in rows])
         if choice < 0.6:
             some = source.sample(columns, source.randint(1, len(columns)))
             sets = [(column, *number(source, [*columns, "id()"], 2)) for column in some]
@@ -187,4 +224,11 @@ class Script:
             quiet = source.random() < 0.5
             name = source.choice("tuvw") if quiet else name
             return f"DROP TABLE {'IF EXISTS ' if quiet else ''}{name}", lambda: tables.drop(name, quiet)
+        if choice < 0.88:
+            free = [each for each in "abcd" if each not in columns]
+            column = source.choice(free) if free and source.random() < 0.95 else source.choice("abcd")
+            return f"ALTER TABLE {name} ADD {column} int64", lambda: tables.add(name, column)
+        if choice < 0.91 and (len(columns) > 1 or source.random() < 0.1):
+            column = source.choice(columns if source.random() < 0.95 else "abcd")
+            return f"ALTER TABLE {name} DROP COLUMN {column}", lambda: tables.lose(name, column)
         return f"SELECT id(), {', '.join(columns)} FROM {name}", lambda: tables.shown(name)

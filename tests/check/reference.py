@@ -313,6 +313,9 @@ class Plan:
     grouped: bool
     groups: list
     keys: list
+    where: object = None  # what is said of WHERE, LIMIT and OFFSET, where they are written
+    limit: object = None
+    offset: object = None
 
 
 def record_sets(select, schema):
@@ -358,14 +361,18 @@ def seen_as(field, kind):
 
 def counted(tree):
     """LIMIT and OFFSET."""
-    if tree is not None and not is_integer(judge(tree, Scope([])).kind):
+    if tree is None:
+        return None
+    count = judge(tree, Scope([]))
+    if not is_integer(count.kind):
         raise Refused(5)
+    return count
 
 
 def plan_of(select, schema, kinds=()):
     """The plan of a SELECT, or its first refusal. In an INSERT its fields are for columns of these kinds."""
     sets, width = record_sets(select, schema)
-    filtered(select.where, Scope(sets))
+    where = filtered(select.where, Scope(sets))
     groups = [judge(column, Scope(sets)) for column in select.groups]
     fields = fields_of(select, sets)
     grouped = bool(groups) or any(has_aggregate(expr) for expr, _ in select.fields or [])
@@ -373,9 +380,9 @@ def plan_of(select, schema, kinds=()):
     named = [(name, seen_as(field, kind), width + i) for i, ((name, field), kind) in enumerate(met)]
     scope = Scope(sets, named, row=not (select.distinct or grouped))
     keys = [judge(key, scope) for key in select.keys]
-    counted(select.limit)
-    counted(select.offset)
-    return Plan(fields, grouped, groups, keys)
+    limit = counted(select.limit)
+    offset = counted(select.offset)
+    return Plan(fields, grouped, groups, keys, where, limit, offset)
 
 
 # Statements that change something. Columns are pairs of a name and a kind.
@@ -514,8 +521,12 @@ def delete(statement, schema):
 
 
 def filtered(where, scope):
-    if where is not None and not is_one_of(judge(where, scope).kind, ["bool"]):
+    if where is None:
+        return None
+    condition = judge(where, scope)
+    if not is_one_of(condition.kind, ["bool"]):
         raise Refused(5)
+    return condition
 
 
 CHANGES = {

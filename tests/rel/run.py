@@ -105,6 +105,22 @@ def chance(seed, count):
     return lines
 
 
+def fewer(seed, count):
+    """Many rows, of which most go by chance, one by one and in runs, with levels in between."""
+    rng, lines = random.Random(seed), ["begin", "CREATE TABLE t (x int64, y string)"] + [f"insert 0 {row} 1" for row in range(count)]
+    for _ in range(count // 4):
+        row = rng.randrange(count + 20)
+        lines += rng.choices(
+            [
+                [f"remove 0 {row}"], [f"remove 0 {gone}" for gone in range(row, row + rng.randrange(2, 300))],
+                [f"change 0 {row} 7 2"], [f"fetch 0 {row}"], [f"scan 0 {row}"], ["scan 0 0"], ["walk 0"], ["insert 0 9 3"],
+                ["begin", "truncate 0", "insert 0 8 1", "walk 0", "rollback", "walk 0"], ["begin", f"remove 0 {row}", "commit"],
+            ],
+            [20, 2, 20, 20, 20, 4, 1, 10, 1, 1],
+        )[0]  # fmt: skip
+    return lines + ["walk 0", "rollback", "schema"]
+
+
 def answers_of(program, lines):
     done = subprocess.run([program], input="\n".join(lines) + "\n", capture_output=True, text=True)
     if done.returncode != 0 or done.stderr:
@@ -131,6 +147,7 @@ def main():
     sets = [("calls", modelled(plain + wide() + deep())), ("columns", modelled(lines_of(COLUMN_CHANGES) + wider()))]
     sets += [("tables", modelled(many())), ("limits", LIMITS)]
     sets += [(f"chance {seed}", modelled(chance(seed, 3000))) for seed in range(4)]
+    sets += [(f"fewer {seed}", modelled(fewer(seed, 1500))) for seed in range(2)]
     wrong = [line for name, pairs in sets for line in compare(program, name, pairs)]
     print("\n".join(wrong[:20] + [f"{sum(len(pairs) for _, pairs in sets)} calls on tables, {len(wrong)} answered wrongly"]))
     return 1 if wrong else 0

@@ -4,7 +4,7 @@ It is written from 'Values' and 'Evaluation' in docs/LANGUAGE.md, over the resol
 is a str of Latin-1 letters, one for each byte, and a blob is bytes.
 """
 from check import trees
-from check.reference import RANGES, Refused, Schema, fits, has_aggregate, plan_of
+from check.reference import RANGES, Refused, Schema, fits, plan_of
 
 WIDTHS = {kind: int(kind.lstrip("uint")) for kind in RANGES}
 
@@ -191,15 +191,29 @@ def printed(made):
 # Statements
 
 
-def row(statement):
-    """The line that a statement shows."""
+def count(checked):
+    """The count of a LIMIT or an OFFSET, or None."""
+    number = None if checked is None else value(checked.expr)
+    if number is not None and number < 0:
+        raise Refused(22)
+    return number
+
+
+def rows(statement):
+    """The lines that a statement shows: one, or none."""
     if not isinstance(statement, trees.Select):
         raise Refused(10)
-    fields = plan_of(statement, Schema({}, {})).fields
-    usual = trees.Select(fields=statement.fields)
-    if statement != usual or has_aggregate([expr for expr, _ in usual.fields or []]):
+    plan = plan_of(statement, Schema({}, {}))
+    if statement.distinct or plan.keys:
         raise Refused(10)
-    return ", ".join(printed(value(field.expr)) for _, field in fields)
+    limit, offset = count(plan.limit), count(plan.offset)
+    if statement.sets or statement.join:
+        raise Refused(10)
+    meant = plan.where is None or value(plan.where.expr) is True
+    if plan.grouped:
+        raise Refused(10)
+    lines = [", ".join(printed(value(field.expr)) for _, field in plan.fields)] if meant else []
+    return lines[offset or 0 :][:limit]
 
 
 def outcome(script):
@@ -207,7 +221,7 @@ def outcome(script):
     lines = []
     for number, statement in enumerate(trees.statements_of(script), 1):
         try:
-            lines.append(row(statement))
+            lines += rows(statement)
         except Refused as refused:
             return lines, f"ql: statement {number}: {refused}"
     return lines, ""

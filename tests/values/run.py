@@ -1,5 +1,5 @@
 #!/usr/bin/env python3
-"""Runs the program ql over SELECTs of expressions: run.py PROGRAM. Its last line is 'N passed, N failed'.
+"""Runs the program ql over SELECTs of expressions without tables: run.py PROGRAM. Its last line is 'N passed, N failed'.
 
 The outcomes of table.txt are written by hand, and reference.py is held against them too; of the random SELECTs
 reference.py says what they come to. Those that have values stand in scripts of a thousand, and each that is refused
@@ -67,7 +67,13 @@ def selects(count):
         wrong = ["nosuch", "len()", "uint8(300)", '(1 + "a")', '("a" LIKE "b")', "1 IN (SELECT 2)", "count()"]
         exprs = Expressions(source, 0.01 if number % 8 == 0 else 0, {}, wrong)
         kinds = source.choices([*KINDS, UNTYPED, *TOLD], k=source.randint(1, 3))
-        yield "SELECT " + ", ".join(exprs.text(kind, source.randint(1, 4)) for kind in kinds)
+        select = "SELECT " + ", ".join(exprs.text(kind, source.randint(1, 4)) for kind in kinds)
+        if source.random() < 0.2:
+            select += f" WHERE {exprs.text('bool', 3)}"
+        for word in ("LIMIT", "OFFSET"):
+            if source.random() < 0.1:
+                select += f" {word} {source.choice(['0', '1', '2', 'NULL', '-1', exprs.text('int8', 2)])}"
+        yield select
 
 
 def scripts(made):

@@ -6,3 +6,9 @@ pub mod Lists
 pub mod Joins
 pub mod Fits
 pub mod Walked
+pub mod Stays
+pub mod Parts
+pub mod Finds
+pub mod Spelled
+pub mod Created
+pub mod Fulls

@@ -13,14 +13,7 @@ use Rattle.lldb_atoms.specs.Sound.{sound_tiling, is_sound, heap_in}
 use Rattle.lldb_blocks.specs.Laid.{Lays, AtRest}
 use Rattle.lldb_blocks.proofs.Bridges.{laid_out}
 use Rattle.lldb_alloc.specs.Reads.{HasContent}
-use Rattle.lldb_alloc.specs.Told.{heap_told}
-
--- the row at rest in a sound content
-pub record Rested (c : List ℕ) (m : Contents) : Type 0 where
-  pub row : List Extent
-  pub lays : Lays c row
-  pub rest : AtRest row
-  pub heap_is : heap row ≡ m
+use Rattle.lldb_alloc.specs.Told.{heap_told, Rested}
 
 some_tiles : (o : Option (List Tile)) (m : Contents) → option_map (λ (tiles : List Tile). heap (row_of tiles)) o ≡ Some m → is_some o ≡ true
 some_tiles None m is = absurd (cc)
@@ -36,7 +29,7 @@ rested b c m is =
     let same : Some (heap l.row) ≡ Some m = sym l.heap_is ∙ is in
     record { row = l.row; lays = l.lays; rest = l.rest; heap_is = cc }
 
-no_contents : heap_in [] ≡ Some []
+pub no_contents : heap_in [] ≡ Some []
 unfolding heap_in
 no_contents = refl
 

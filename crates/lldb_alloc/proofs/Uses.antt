@@ -91,7 +91,7 @@ long_read (Some c) result out at n undamaged read = λ h p nx x u y place head s
     (gives_when (out ≡ take n (drop (16 * at + 3) c)) result undamaged (on_ok (λ d. out ≡ take n (drop (16 * at + 3) d)) result c read))
 
 -- another block is no used one
-not_used : (b : Block) (m : ℕ) → ((n : ℕ) → b ≡ block.Short n → ⊥) → ((n : ℕ) → b ≡ block.Long n → ⊥) → b ≡ used_head m → ⊥
+pub not_used : (b : Block) (m : ℕ) → ((n : ℕ) → b ≡ block.Short n → ⊥) → ((n : ℕ) → b ≡ block.Long n → ⊥) → b ≡ used_head m → ⊥
 not_used b m short long is = elim (cases_lt 251 m) [
   | inl large ↦ long m (is ∙ cond-false (leb m 251) (block.Short m) (block.Long m) (lt-leb m 251 large))
   | inr small ↦ short m (is ∙ cond-true (leb m 251) (block.Short m) (block.Long m) (le-leb m 251 small))
@@ -114,7 +114,7 @@ free_read told out at s a b = other_read told out at (block.Free s a b) (λ n is
 pub record AtHandle (row : List Extent) (q : ℕ) (u : List ℕ) : Type 0 where
   pub home : (extent_at 8 row q ≡ Some (Used u)) ⊎ ((t : ℕ) × (extent_at 8 row q ≡ Some (Moved t)) × (extent_at 8 row t ≡ Some (Used u)))
 
-used_says : (o : Option Extent) (u : List ℕ) → used_content o ≡ Some u → o ≡ Some (Used u)
+pub used_says : (o : Option Extent) (u : List ℕ) → used_content o ≡ Some u → o ≡ Some (Used u)
 used_says None u is = absurd (cc)
 used_says (Some (Used c)) u is = ap (λ (z : List ℕ). Some (Used z)) (let same : c ≡ u = cc in same)
 used_says (Some (Compressed c)) u is = absurd (cc)
@@ -138,7 +138,7 @@ pub handle_says : (row : List Extent) (q : ℕ) (u : List ℕ) → Solid row →
 handle_says row q u solid is = meant_says row q u (extent_at 8 row q) refl (sym (heap_at row q solid) ∙ is)
 
 -- the row with the block at an atom in the middle
-spells_at : {P : Type 0} → (c : List ℕ) (row : List Extent) (l : Lays c row) (q : ℕ) (e : Extent) → extent_at 8 row q ≡ Some e → ((x y : List Extent) → q ≡ 8 + atoms_in x → Spells l.head l.previous l.next c (x ++ e ∷ y) → P) → P
+pub spells_at : {P : Type 0} → (c : List ℕ) (row : List Extent) (l : Lays c row) (q : ℕ) (e : Extent) → extent_at 8 row q ≡ Some e → ((x y : List Extent) → q ≡ 8 + atoms_in x → Spells l.head l.previous l.next c (x ++ e ∷ y) → P) → P
 spells_at c row l q e is goes =
     let f = found 8 row q e is in
     goes f.0 f.1 f.3 (subst (λ (r : List Extent). Spells l.head l.previous l.next c r) f.2 l.spells)

@@ -59,7 +59,7 @@ ahead_place c class wanted count here some row l w = at_first w.ahead refl
         let has : contains (l.chains class) here ≡ true = subst (λ (q : ℕ). contains (l.chains class) q ≡ true) (sym same) (subst (λ (u : List ℕ). contains u a ≡ true) (sym (w.chain_is ∙ ap (λ (u : List ℕ). w.passed ++ u) is)) (has_append_right w.passed (a ∷ v) a (has_head a v))) in
         placed l.head l.previous l.next row l.chains class here l.spells.solid l.listed has
 
-place_look : (row : List Extent) (q : ℕ) (f : Place row q) → Solid row → extent_at 8 row q ≡ Some (Free f.size)
+pub place_look : (row : List Extent) (q : ℕ) (f : Place row q) → Solid row → extent_at 8 row q ≡ Some (Free f.size)
 place_look row q f solid =
     ap (λ (r : List Extent). extent_at 8 r q) f.row_is ∙ ap (extent_at 8 (f.before ++ Free f.size ∷ f.behind)) f.atom_is
     ∙ look_here 8 f.before (Free f.size) f.behind (Solid_left f.before (Free f.size ∷ f.behind) (subst (λ (r : List Extent). Solid r) f.row_is solid))

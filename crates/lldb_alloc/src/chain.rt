@@ -7,9 +7,10 @@ ghost use Rattle.lldb_atoms.specs.Heads.{head_of, IsValid};
 ghost use Rattle.lldb_atoms.specs.Blocks.{free_head};
 ghost use Rattle.lldb_atoms.specs.Lists.{list_head};
 ghost use Rattle.lldb_blocks.specs.Steps.{Forward, Backward, SetsFree, Takes, Puts};
-ghost use Rattle.lldb_alloc.specs.Frames.{KeepsLevels, KeepsContent};
+ghost use Rattle.lldb_alloc.specs.Frames.{KeepsLevels, KeepsContent, KeepsStops};
 ghost use Rattle.lldb_alloc.specs.Changes.{Turns, LacksFree, LacksListed, LacksHole, LacksRow};
 
+use crate::bytes::read_bytes;
 use crate::links::{overwrite, read_free, set_head, set_next, set_previous};
 use byteorder::{BigEndian, ByteOrder};
 use lldb_atoms::{Block, class_of, tail, write_head};
@@ -30,6 +31,8 @@ fn pass_forward<F: Filer>(filer: &mut F, class: u8, previous: u64, next: u64) ->
         (LacksFree previous)) result }
     ensures frame { KeepsLevels F.saved F.saved_sizes F.limit_of F.is_sound F.told F.left F.fixed
         filer.old filer.new }
+    ensures stops { KeepsStops F.content F.saved F.may_leave F.moment F.left_since F.told filer.old
+        filer.new }
     ensures cause { IsCausedTrouble result (F.faults filer.old) (F.faults filer.new) }
 {
     if previous == 0 {
@@ -52,6 +55,8 @@ fn pass_backward<F: Filer>(filer: &mut F, previous: u64, next: u64) -> Result<()
         (LacksFree next)) result }
     ensures frame { KeepsLevels F.saved F.saved_sizes F.limit_of F.is_sound F.told F.left F.fixed
         filer.old filer.new }
+    ensures stops { KeepsStops F.content F.saved F.may_leave F.moment F.left_since F.told filer.old
+        filer.new }
     ensures cause { IsCausedTrouble result (F.faults filer.old) (F.faults filer.new) }
 {
     if next == 0 {
@@ -75,6 +80,8 @@ pub(crate) fn unlink<F: Filer>(filer: &mut F, at: u64) -> Result<u64, Trouble>
     ensures refuses { Refuses (λ _ _. ⊥) (IfSome (F.content filer.old) (LacksListed at)) result }
     ensures frame { KeepsLevels F.saved F.saved_sizes F.limit_of F.is_sound F.told F.left F.fixed
         filer.old filer.new }
+    ensures stops { KeepsStops F.content F.saved F.may_leave F.moment F.left_since F.told filer.old
+        filer.new }
     ensures cause { IsCausedTrouble result (F.faults filer.old) (F.faults filer.new) }
 {
     let free = read_free(filer, at)?;
@@ -96,10 +103,12 @@ pub(crate) fn read_list<F: Filer>(filer: &mut F, class: u8) -> Result<u64, Troub
     ensures refuses { Refuses (λ _ _. ⊥) (IfSome (F.content filer.old) LacksRow) result }
     ensures frame { KeepsLevels F.saved F.saved_sizes F.limit_of F.is_sound F.told F.left F.fixed
         filer.old filer.new }
+    ensures stops { KeepsStops F.content F.saved F.may_leave F.moment F.left_since F.told filer.old
+        filer.new }
     ensures cause { IsCausedTrouble result (F.faults filer.old) (F.faults filer.new) }
 {
     let mut bytes = [0; 8];
-    filer.read_at(8 * (class as u64), &mut bytes)?;
+    read_bytes(filer, 8 * (class as u64), &mut bytes)?;
     let first = BigEndian::read_u64(&bytes);
     if first >= 0x0100_0000_0000_0000 {
         return Err(Trouble::Damaged);
@@ -140,6 +149,8 @@ fn write_front<F: Filer>(filer: &mut F, at: u64, block: &Block) -> Result<(), Tr
     ensures refuses { Refuses (λ _ _. ⊥) ⊥ result }
     ensures frame { KeepsLevels F.saved F.saved_sizes F.limit_of F.is_sound F.told F.left F.fixed
         filer.old filer.new }
+    ensures stops { KeepsStops F.content F.saved F.may_leave F.moment F.left_since F.told filer.old
+        filer.new }
     ensures cause { IsCausedTrouble result (F.faults filer.old) (F.faults filer.new) }
 {
     let mut head = [0; 32];
@@ -148,7 +159,7 @@ fn write_front<F: Filer>(filer: &mut F, at: u64, block: &Block) -> Result<(), Tr
 }
 
 /// Makes a hole of so many atoms a free block, the first of its list.
-#[tactic(auto, using(crate::proofs::Fits::head_fits, crate::proofs::Joins::one_free, crate::proofs::Joins::more_free))]
+#[tactic(auto, using(crate::proofs::Fits::head_fits, crate::proofs::Joins::one_free, crate::proofs::Joins::more_free, crate::proofs::Stays::stops_none, crate::proofs::Stays::stops_then))]
 fn write_free<F: Filer>(filer: &mut F, at: u64, atoms: u64, next: u64) -> Result<(), Trouble>
     requires sound { IsTrue (F.is_sound filer.old) }
     requires depth { 1 ≤ length (F.saved filer.old) }
@@ -163,6 +174,8 @@ fn write_free<F: Filer>(filer: &mut F, at: u64, atoms: u64, next: u64) -> Result
     ensures refuses { Refuses (λ _ _. ⊥) ⊥ result }
     ensures frame { KeepsLevels F.saved F.saved_sizes F.limit_of F.is_sound F.told F.left F.fixed
         filer.old filer.new }
+    ensures stops { KeepsStops F.content F.saved F.may_leave F.moment F.left_since F.told filer.old
+        filer.new }
     ensures cause { IsCausedTrouble result (F.faults filer.old) (F.faults filer.new) }
 {
     let block = first_free(atoms, next);
@@ -209,6 +222,8 @@ pub(crate) fn link<F: Filer>(filer: &mut F, at: u64, atoms: u64) -> Result<(), T
         result }
     ensures frame { KeepsLevels F.saved F.saved_sizes F.limit_of F.is_sound F.told F.left F.fixed
         filer.old filer.new }
+    ensures stops { KeepsStops F.content F.saved F.may_leave F.moment F.left_since F.told filer.old
+        filer.new }
     ensures cause { IsCausedTrouble result (F.faults filer.old) (F.faults filer.new) }
 {
     let class = class_of(atoms);

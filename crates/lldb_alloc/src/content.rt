@@ -4,10 +4,11 @@ ghost use Rattle.lldb_base.specs.Trouble.{IsCausedTrouble, Refuses};
 ghost use Rattle.lldb_base.specs.Contents.{content_of};
 ghost use Rattle.lldb_base.specs.Heaps.{MayBeDead};
 ghost use Rattle.lldb_atoms.specs.Heads.{atoms_of, IsValid};
-ghost use Rattle.lldb_alloc.specs.Frames.{KeepsLevels, KeepsContent};
+ghost use Rattle.lldb_alloc.specs.Frames.{KeepsLevels, KeepsContent, KeepsStops};
 ghost use Rattle.lldb_alloc.specs.Reads.{HasUsed, HasContent};
 ghost use Rattle.lldb_alloc.specs.Told.{heap_told};
 
+use crate::bytes::read_bytes;
 use crate::front::read_block;
 use lldb_atoms::Block;
 use lldb_base::{Filer, Trouble};
@@ -28,9 +29,11 @@ fn fetch<F: Filer>(
     ensures refuses { Refuses (λ _ _. ⊥) ⊥ result }
     ensures frame { KeepsLevels F.saved F.saved_sizes F.limit_of F.is_sound F.told F.left F.fixed
         filer.old filer.new }
+    ensures stops { KeepsStops F.content F.saved F.may_leave F.moment F.left_since F.told filer.old
+        filer.new }
     ensures cause { IsCausedTrouble result (F.faults filer.old) (F.faults filer.new) }
 {
-    filer.read_at(from, buffer)?;
+    read_bytes(filer, from, buffer)?;
     out.clear();
     out.extend(buffer)?;
     Ok(())
@@ -52,6 +55,8 @@ fn fetch_short<F: Filer>(
     ensures refuses { Refuses (λ _ _. ⊥) ⊥ result }
     ensures frame { KeepsLevels F.saved F.saved_sizes F.limit_of F.is_sound F.told F.left F.fixed
         filer.old filer.new }
+    ensures stops { KeepsStops F.content F.saved F.may_leave F.moment F.left_since F.told filer.old
+        filer.new }
     ensures cause { IsCausedTrouble result (F.faults filer.old) (F.faults filer.new) }
 {
     let mut buffer = [0; 251];
@@ -75,6 +80,8 @@ fn fetch_long<F: Filer>(
     ensures refuses { Refuses (λ _ _. ⊥) ⊥ result }
     ensures frame { KeepsLevels F.saved F.saved_sizes F.limit_of F.is_sound F.told F.left F.fixed
         filer.old filer.new }
+    ensures stops { KeepsStops F.content F.saved F.may_leave F.moment F.left_since F.told filer.old
+        filer.new }
     ensures cause { IsCausedTrouble result (F.faults filer.old) (F.faults filer.new) }
 {
     let mut buffer = [0; 65_787];
@@ -92,6 +99,8 @@ fn read_used<F: Filer>(filer: &mut F, at: u64, head: &Block, out: &mut Bytes) ->
     ensures refuses { Refuses (λ _ _. ⊥) ⊤ result }
     ensures frame { KeepsLevels F.saved F.saved_sizes F.limit_of F.is_sound F.told F.left F.fixed
         filer.old filer.new }
+    ensures stops { KeepsStops F.content F.saved F.may_leave F.moment F.left_since F.told filer.old
+        filer.new }
     ensures cause { IsCausedTrouble result (F.faults filer.old) (F.faults filer.new) }
 {
     match *head {
@@ -126,6 +135,8 @@ fn read_handle<F: Filer>(filer: &mut F, handle: u64, out: &mut Bytes) -> Result<
     ensures refuses { Refuses (λ _ _. ⊥) ⊤ result }
     ensures frame { KeepsLevels F.saved F.saved_sizes F.limit_of F.is_sound F.told F.left F.fixed
         filer.old filer.new }
+    ensures stops { KeepsStops F.content F.saved F.may_leave F.moment F.left_since F.told filer.old
+        filer.new }
     ensures cause { IsCausedTrouble result (F.faults filer.old) (F.faults filer.new) }
 {
     let home = read_block(filer, handle)?;
@@ -139,7 +150,7 @@ fn read_handle<F: Filer>(filer: &mut F, handle: u64, out: &mut Bytes) -> Result<
 }
 
 /// Makes `out` the content of a handle of the heap that a filer's content holds.
-#[tactic(auto, using(crate::proofs::ToldHeaps::content_read, crate::proofs::ToldHeaps::content_damaged))]
+#[tactic(auto, using(crate::proofs::ToldHeaps::content_read, crate::proofs::ToldHeaps::content_damaged, crate::proofs::Stays::stops_none, crate::proofs::Stays::stops_then))]
 pub fn read_content<F: Filer>(filer: &mut F, handle: u64, out: &mut Bytes) -> Result<(), Trouble>
     requires sound { IsTrue (F.is_sound filer.old) }
     requires most { F.size_of filer.old ≤ 2 ^ 60 }
@@ -150,6 +161,8 @@ pub fn read_content<F: Filer>(filer: &mut F, handle: u64, out: &mut Bytes) -> Re
         result }
     ensures frame { KeepsLevels F.saved F.saved_sizes F.limit_of F.is_sound F.told F.left F.fixed
         filer.old filer.new }
+    ensures stops { KeepsStops F.content F.saved F.may_leave F.moment F.left_since F.told filer.old
+        filer.new }
     ensures cause { IsCausedTrouble result (F.faults filer.old) (F.faults filer.new) }
 {
     read_handle(filer, handle, out)

@@ -2,9 +2,10 @@
 ghost use Rattle.std.specs.Prelude.{◌≡◌, ⊤, ◌+◌, ◌-◌, ◌*◌, ◌^◌, ◌≤◌, min, IsTrue, take, drop, OnOk, IfOk, IfSome};
 ghost use Rattle.lldb_base.specs.Trouble.{IsCausedTrouble, Refuses};
 ghost use Rattle.lldb_atoms.specs.Heads.{atoms_of, IsValid};
-ghost use Rattle.lldb_alloc.specs.Frames.{KeepsLevels, KeepsContent};
+ghost use Rattle.lldb_alloc.specs.Frames.{KeepsLevels, KeepsContent, KeepsStops};
 ghost use Rattle.lldb_alloc.specs.Reads.{HasBlock};
 
+use crate::bytes::read_bytes;
 use lldb_atoms::{Block, read_head};
 use lldb_base::{Filer, Trouble};
 
@@ -20,11 +21,13 @@ fn read_front<F: Filer>(filer: &mut F, at: u64) -> Result<[u8; 32], Trouble>
     ensures refuses { Refuses (λ _ _. ⊥) ⊥ result }
     ensures frame { KeepsLevels F.saved F.saved_sizes F.limit_of F.is_sound F.told F.left F.fixed
         filer.old filer.new }
+    ensures stops { KeepsStops F.content F.saved F.may_leave F.moment F.left_since F.told filer.old
+        filer.new }
     ensures cause { IsCausedTrouble result (F.faults filer.old) (F.faults filer.new) }
 {
     let mut front = [0; 32];
     let count = (filer.size() - 16 * at).min(32) as usize;
-    filer.read_at(16 * at, &mut front[..count])?;
+    read_bytes(filer, 16 * at, &mut front[..count])?;
     Ok(front)
 }
 
@@ -39,6 +42,8 @@ pub(crate) fn read_block<F: Filer>(filer: &mut F, at: u64) -> Result<Block, Trou
     ensures refuses { Refuses (λ _ _. ⊥) ⊤ result }
     ensures frame { KeepsLevels F.saved F.saved_sizes F.limit_of F.is_sound F.told F.left F.fixed
         filer.old filer.new }
+    ensures stops { KeepsStops F.content F.saved F.may_leave F.moment F.left_since F.told filer.old
+        filer.new }
     ensures cause { IsCausedTrouble result (F.faults filer.old) (F.faults filer.new) }
 {
     let atoms = filer.size() / 16;

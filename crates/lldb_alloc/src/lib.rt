@@ -1,10 +1,14 @@
 //! Contents by handle in blocks of a content, over any filer.
-#![tactic(auto)]
+#![tactic(auto, using(crate::proofs::Stays::stops_none, crate::proofs::Stays::stops_then))]
 
+mod bytes;
 mod chain;
 mod content;
+mod create;
 mod front;
 mod links;
 mod room;
+mod write;
 
 pub use content::read_content;
+pub use create::create_content;

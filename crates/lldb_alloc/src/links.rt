@@ -6,9 +6,10 @@ ghost use Rattle.lldb_atoms.specs.Numbers.{as_bytes};
 ghost use Rattle.lldb_atoms.specs.Heads.{atoms_of, IsValid};
 ghost use Rattle.lldb_atoms.specs.Blocks.{free_head};
 ghost use Rattle.lldb_blocks.specs.Steps.{links_from, SetsHead, SetsPrevious, SetsNext};
-ghost use Rattle.lldb_alloc.specs.Frames.{KeepsLevels, KeepsContent};
+ghost use Rattle.lldb_alloc.specs.Frames.{KeepsLevels, KeepsContent, KeepsStops};
 ghost use Rattle.lldb_alloc.specs.Changes.{Turns, HasFree, LacksFree};
 
+use crate::bytes::write_bytes;
 use crate::front::read_block;
 use byteorder::{BigEndian, ByteOrder};
 use lldb_atoms::{Block, seven_bytes};
@@ -23,7 +24,7 @@ pub(crate) struct FreeBlock {
 }
 
 /// Writes a piece over bytes that are there.
-#[tactic(auto, using(crate::proofs::Singles::not_full))]
+#[tactic(auto, using(crate::proofs::Singles::not_full, crate::proofs::Stays::stops_none, crate::proofs::Stays::stops_then))]
 pub(crate) fn overwrite<F: Filer>(filer: &mut F, at: u64, piece: &[u8]) -> Result<(), Trouble>
     requires sound { IsTrue (F.is_sound filer.old) }
     requires depth { 1 ≤ length (F.saved filer.old) }
@@ -35,9 +36,11 @@ pub(crate) fn overwrite<F: Filer>(filer: &mut F, at: u64, piece: &[u8]) -> Resul
     ensures refuses { Refuses (λ _ _. ⊥) ⊥ result }
     ensures frame { KeepsLevels F.saved F.saved_sizes F.limit_of F.is_sound F.told F.left F.fixed
         filer.old filer.new }
+    ensures stops { KeepsStops F.content F.saved F.may_leave F.moment F.left_since F.told filer.old
+        filer.new }
     ensures cause { IsCausedTrouble result (F.faults filer.old) (F.faults filer.new) }
 {
-    filer.write_at(at, piece)?;
+    write_bytes(filer, at, piece)?;
     Ok(())
 }
 
@@ -96,6 +99,8 @@ pub(crate) fn read_free<F: Filer>(filer: &mut F, at: u64) -> Result<FreeBlock, T
     ensures refuses { Refuses (λ _ _. ⊥) (IfSome (F.content filer.old) (LacksFree at)) result }
     ensures frame { KeepsLevels F.saved F.saved_sizes F.limit_of F.is_sound F.told F.left F.fixed
         filer.old filer.new }
+    ensures stops { KeepsStops F.content F.saved F.may_leave F.moment F.left_since F.told filer.old
+        filer.new }
     ensures cause { IsCausedTrouble result (F.faults filer.old) (F.faults filer.new) }
 {
     let block = read_block(filer, at)?;
@@ -106,7 +111,7 @@ pub(crate) fn read_free<F: Filer>(filer: &mut F, at: u64) -> Result<FreeBlock, T
 }
 
 /// Lets the list of a class begin at an atom.
-#[tactic(auto, using(crate::proofs::Singles::head_told))]
+#[tactic(auto, using(crate::proofs::Singles::head_told, crate::proofs::Stays::stops_none, crate::proofs::Stays::stops_then))]
 pub(crate) fn set_head<F: Filer>(filer: &mut F, class: u8, atom: u64) -> Result<(), Trouble>
     requires sound { IsTrue (F.is_sound filer.old) }
     requires depth { 1 ≤ length (F.saved filer.old) }
@@ -118,6 +123,8 @@ pub(crate) fn set_head<F: Filer>(filer: &mut F, class: u8, atom: u64) -> Result<
     ensures refuses { Refuses (λ _ _. ⊥) ⊥ result }
     ensures frame { KeepsLevels F.saved F.saved_sizes F.limit_of F.is_sound F.told F.left F.fixed
         filer.old filer.new }
+    ensures stops { KeepsStops F.content F.saved F.may_leave F.moment F.left_since F.told filer.old
+        filer.new }
     ensures cause { IsCausedTrouble result (F.faults filer.old) (F.faults filer.new) }
 {
     overwrite(filer, 8 * (class as u64), &eight_bytes(atom))?;
@@ -125,7 +132,7 @@ pub(crate) fn set_head<F: Filer>(filer: &mut F, class: u8, atom: u64) -> Result<
 }
 
 /// Lets the free block at an atom name another one before it in its list.
-#[tactic(auto, using(crate::proofs::Singles::previous_told))]
+#[tactic(auto, using(crate::proofs::Singles::previous_told, crate::proofs::Stays::stops_none, crate::proofs::Stays::stops_then))]
 pub(crate) fn set_previous<F: Filer>(filer: &mut F, at: u64, value: u64) -> Result<(), Trouble>
     requires sound { IsTrue (F.is_sound filer.old) }
     requires depth { 1 ≤ length (F.saved filer.old) }
@@ -137,6 +144,8 @@ pub(crate) fn set_previous<F: Filer>(filer: &mut F, at: u64, value: u64) -> Resu
     ensures refuses { Refuses (λ _ _. ⊥) (IfSome (F.content filer.old) (LacksFree at)) result }
     ensures frame { KeepsLevels F.saved F.saved_sizes F.limit_of F.is_sound F.told F.left F.fixed
         filer.old filer.new }
+    ensures stops { KeepsStops F.content F.saved F.may_leave F.moment F.left_since F.told filer.old
+        filer.new }
     ensures cause { IsCausedTrouble result (F.faults filer.old) (F.faults filer.new) }
 {
     let free = read_free(filer, at)?;
@@ -146,7 +155,7 @@ pub(crate) fn set_previous<F: Filer>(filer: &mut F, at: u64, value: u64) -> Resu
 }
 
 /// Lets the free block at an atom name another one behind it in its list.
-#[tactic(auto, using(crate::proofs::Singles::next_told))]
+#[tactic(auto, using(crate::proofs::Singles::next_told, crate::proofs::Stays::stops_none, crate::proofs::Stays::stops_then))]
 pub(crate) fn set_next<F: Filer>(filer: &mut F, at: u64, value: u64) -> Result<(), Trouble>
     requires sound { IsTrue (F.is_sound filer.old) }
     requires depth { 1 ≤ length (F.saved filer.old) }
@@ -158,6 +167,8 @@ pub(crate) fn set_next<F: Filer>(filer: &mut F, at: u64, value: u64) -> Result<(
     ensures refuses { Refuses (λ _ _. ⊥) (IfSome (F.content filer.old) (LacksFree at)) result }
     ensures frame { KeepsLevels F.saved F.saved_sizes F.limit_of F.is_sound F.told F.left F.fixed
         filer.old filer.new }
+    ensures stops { KeepsStops F.content F.saved F.may_leave F.moment F.left_since F.told filer.old
+        filer.new }
     ensures cause { IsCausedTrouble result (F.faults filer.old) (F.faults filer.new) }
 {
     let free = read_free(filer, at)?;

@@ -10,6 +10,10 @@ MayBeDead handle told = IfSome told (λ map. content_of handle map ≡ None)
 abbrev pub IsGrown : ℕ → ℕ → Option Contents → Type 0
 IsGrown handle atoms told = IfSome told (λ map. IfSome (content_of handle map) (λ content. atoms_for (length content) < atoms))
 
+-- the most bytes that a content of so many atoms adds to what has this size
+abbrev pub most_added : ℕ → ℕ → ℕ
+most_added atoms size = 16 * atoms + (if nat_eq size 0 then 128 else 0)
+
 -- no free block serves so many atoms, and the content cannot grow by them
 pub record IsFull (atoms most_free size_old size_new : ℕ) (limit : Option ℕ) (need most : ℕ) : Type 0 where
   pub none_free : most_free < atoms

@@ -2,7 +2,7 @@
 ghost use Rattle.std.specs.Prelude.{◌≡◌, ℕ, ◌^◌, ◌<◌, ◌≤◌, ◌↔◌, min, ◌+◌, ◌-◌, Bool, true, false, IsTrue, List, [], ◌∷◌, length, drop, Option, Some, None, IfOk, OnOk, OnErr, IfSome};
 ghost use Rattle.ql_edge.specs.Stops.{Leaves, HasShown, Adds, IsSameBut};
 ghost use Rattle.lldb_base.specs.Contents.{Contents, content_of, with_content, without, atoms_for, AreContents};
-ghost use Rattle.lldb_base.specs.Heaps.{MayBeDead, IsGrown, IsFull, IsSameHeap};
+ghost use Rattle.lldb_base.specs.Heaps.{MayBeDead, IsGrown, most_added, IsFull, IsSameHeap};
 ghost use Rattle.lldb_base.specs.Stops.{LeavesOnly, IsEnded, kept_of};
 ghost use Rattle.lldb_base.specs.Trouble.{IsCausedTrouble, Refuses, SoundAfter};
 
@@ -79,6 +79,8 @@ pub trait Heap: Shows {
         ensures refused { OnErr result (is_ready self.new ≡ false) }
         ensures saved { saved self.new ≡ saved self.old }
         ensures saved_sizes { saved_sizes self.new ≡ saved_sizes self.old }
+        ensures grows { size_of self.new ≤ size_of self.old
+            + most_added (atoms_for (length content.now)) (size_of self.old) }
         ensures limit { limit_of self.new ≡ limit_of self.old }
         ensures sound { is_sound self.new ≡ is_sound self.old }
         ensures reads { reads_of self.new ≡ reads_of self.old }
@@ -131,6 +133,8 @@ pub trait Heap: Shows {
         ensures refused { OnErr result (is_ready self.new ≡ false) }
         ensures saved { saved self.new ≡ saved self.old }
         ensures saved_sizes { saved_sizes self.new ≡ saved_sizes self.old }
+        ensures grows { size_of self.new ≤ size_of self.old
+            + most_added (atoms_for (length content.now)) (size_of self.old) }
         ensures limit { limit_of self.new ≡ limit_of self.old }
         ensures sound { is_sound self.new ≡ is_sound self.old }
         ensures reads { reads_of self.new ≡ reads_of self.old }
@@ -158,6 +162,7 @@ pub trait Heap: Shows {
         ensures refused { OnErr result (is_ready self.new ≡ false) }
         ensures saved { saved self.new ≡ saved self.old }
         ensures saved_sizes { saved_sizes self.new ≡ saved_sizes self.old }
+        ensures shrinks { size_of self.new ≤ size_of self.old }
         ensures limit { limit_of self.new ≡ limit_of self.old }
         ensures sound { is_sound self.new ≡ is_sound self.old }
         ensures reads { reads_of self.new ≡ reads_of self.old }

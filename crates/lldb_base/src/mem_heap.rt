@@ -5,7 +5,7 @@ ghost use Rattle.std.proofs.Props.{props};
 ghost use Rattle.std.proofs.lemmas.List.{length-replicate, length-map};
 ghost use Rattle.ql_edge.specs.Stops.{IsSameBut};
 ghost use Rattle.lldb_base.specs.Contents.{AreContents, content_of, with_content, without, atoms_for};
-ghost use Rattle.lldb_base.specs.Heaps.{MayBeDead, IsGrown, IsFull};
+ghost use Rattle.lldb_base.specs.Heaps.{MayBeDead, IsGrown, most_added, IsFull};
 ghost use Rattle.lldb_base.specs.Memory.{Stood, are_risen, mem_counts, mem_only, kept_only, kept_same};
 ghost use Rattle.lldb_base.specs.Shown.{count_shown, shown_again, shown_more};
 ghost use Rattle.lldb_base.specs.Stops.{kept_of};
@@ -265,6 +265,8 @@ impl Heap for MemHeap {
         ensures saved { ⟦<MemHeap as Heap>⟧.saved self.new ≡ ⟦<MemHeap as Heap>⟧.saved self.old }
         ensures saved_sizes { ⟦<MemHeap as Heap>⟧.saved_sizes self.new
             ≡ ⟦<MemHeap as Heap>⟧.saved_sizes self.old }
+        ensures grows { ⟦<MemHeap as Heap>⟧.size_of self.new ≤ ⟦<MemHeap as Heap>⟧.size_of self.old
+            + most_added (atoms_for (length content.now)) (⟦<MemHeap as Heap>⟧.size_of self.old) }
         ensures limit { ⟦<MemHeap as Heap>⟧.limit_of self.new
             ≡ ⟦<MemHeap as Heap>⟧.limit_of self.old }
         ensures sound { ⟦<MemHeap as Heap>⟧.is_sound self.new
@@ -314,6 +316,8 @@ impl Heap for MemHeap {
         ensures saved { ⟦<MemHeap as Heap>⟧.saved self.new ≡ ⟦<MemHeap as Heap>⟧.saved self.old }
         ensures saved_sizes { ⟦<MemHeap as Heap>⟧.saved_sizes self.new
             ≡ ⟦<MemHeap as Heap>⟧.saved_sizes self.old }
+        ensures shrinks { ⟦<MemHeap as Heap>⟧.size_of self.new
+            ≤ ⟦<MemHeap as Heap>⟧.size_of self.old }
         ensures limit { ⟦<MemHeap as Heap>⟧.limit_of self.new
             ≡ ⟦<MemHeap as Heap>⟧.limit_of self.old }
         ensures sound { ⟦<MemHeap as Heap>⟧.is_sound self.new

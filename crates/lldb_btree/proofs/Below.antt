@@ -1,5 +1,5 @@
 -- One level of a set, by what was read of its node.
-use Rattle.std.proofs.Common.{◌≡◌, ⊎_elim, ℕ, zero, suc, ◌+◌, ◌-◌, ◌<◌, ◌≤◌, Bool, true, false, List, [], ◌∷◌, ◌++◌, length, map, Option, Some, Result, Ok, Err, IfOk, refl, sym, ap, ap₂, ◌∙◌, arith, length-append, append-nil}
+use Rattle.std.proofs.Common.{◌≡◌, ⊎_elim, ℕ, zero, suc, ◌+◌, ◌-◌, ◌*◌, ◌<◌, ◌≤◌, Bool, true, false, List, [], ◌∷◌, ◌++◌, length, map, Option, Some, Result, Ok, Err, IfOk, refl, sym, ap, ap₂, ◌∙◌, arith, length-append, append-nil}
 use Rattle.std.specs.List.{AllByRecursion}
 use Rattle.std.specs.Int.{to_be_bytes, w64}
 use Rattle.std.proofs.lemmas.List.{map-append, append_cancel_right}
@@ -16,7 +16,7 @@ use Rattle.lldb_btree.specs.Footprints.{times}
 use Rattle.lldb_btree.specs.Nodes.{Entry, is_leaf, entries, body, spelling, pair_entry, child_entry, FitsChild}
 use Rattle.lldb_btree.specs.Pairs.{FitsPair, Rises, keys_of, insert}
 use Rattle.lldb_btree.specs.Reading.{mark}
-use Rattle.lldb_btree.specs.Splicing.{AreNode, IsWay}
+use Rattle.lldb_btree.specs.Splicing.{AddsNodes, AreNode, IsWay}
 use Rattle.lldb_btree.specs.Trees.{Part, greatest, child_of, pairs_of, footprint_of, IsNode, IsOver}
 use Rattle.lldb_btree.proofs.Ahead.{ahead_falls, none_pass, rises_left, rises_right}
 use Rattle.lldb_btree.proofs.Edited.{times_append}
@@ -58,13 +58,13 @@ LeafRead n rest pairs = AllByRecursion FitsPair pairs × (length pairs ≡ n) ×
 abbrev pub InnerRead : ℕ → List ℕ → List Child → Type 0
 InnerRead n rest children = AllByRecursion FitsChild children × (0 < length children) × (length children ≡ n) × (rest ≡ body (map child_entry children))
 
-as_leaf : (told : Option Contents) (handle room : ℕ) (bytes rest : List ℕ) (leaf : Bool) (n : ℕ) → Got told handle bytes → HeadRead bytes leaf n rest → (m : Contents) (least : ℕ) (p : Part) → CanEdit told m zero least p handle room → (leaf ≡ true) × LeafRead n rest p.pairs
+pub as_leaf : (told : Option Contents) (handle room : ℕ) (bytes rest : List ℕ) (leaf : Bool) (n : ℕ) → Got told handle bytes → HeadRead bytes leaf n rest → (m : Contents) (least : ℕ) (p : Part) → CanEdit told m zero least p handle room → (leaf ≡ true) × LeafRead n rest p.pairs
 as_leaf told handle room bytes rest leaf n got head m least p e =
     let is : bytes ≡ spelling (Leaf p.pairs) = node_got told m zero least handle room p bytes e.walk got ∙ ap spelling e.walk.stands.over.0 in
     let h = head true (length p.pairs) (body (map pair_entry p.pairs)) is in
     (h.0, (e.walk.sorted.fits, sym h.1, h.2))
 
-as_inner : (told : Option Contents) (handle room : ℕ) (bytes rest : List ℕ) (leaf : Bool) (n : ℕ) → Got told handle bytes → HeadRead bytes leaf n rest → (m : Contents) (d least : ℕ) (p : Part) (e : CanEdit told m (suc d) least p handle room) → (leaf ≡ false) × InnerRead n rest (map child_of e.walk.stands.over.parts)
+pub as_inner : (told : Option Contents) (handle room : ℕ) (bytes rest : List ℕ) (leaf : Bool) (n : ℕ) → Got told handle bytes → HeadRead bytes leaf n rest → (m : Contents) (d least : ℕ) (p : Part) (e : CanEdit told m (suc d) least p handle room) → (leaf ≡ false) × InnerRead n rest (map child_of e.walk.stands.over.parts)
 as_inner told handle room bytes rest leaf n got head m d least p e =
     let is : bytes ≡ spelling (Inner (map child_of e.walk.stands.over.parts)) = node_got told m (suc d) least handle room p bytes e.walk got ∙ ap spelling e.walk.stands.over.named in
     let h = head false (length (map child_of e.walk.stands.over.parts)) (body (map child_entry (map child_of e.walk.stands.over.parts))) is in
@@ -179,7 +179,7 @@ pub record Goes (read : Option Contents) (m : Contents) (d least room many : ℕ
 abbrev pub AllGo : Option Contents → Option Contents → ℕ → ℕ → ℕ → List ℕ → List ℕ → List ℕ → ℕ → Type 0
 AllGo told read handle room many k front back child = (m : Contents) (d least : ℕ) (p : Part) → CanEdit told m d least p handle room → Goes read m d least room many p k front back child
 
-edit_kept : (told now : Option Contents) (m : Contents) (d least handle room : ℕ) (p : Part) → now ≡ told → CanEdit told m d least p handle room → CanEdit now m d least p handle room
+pub edit_kept : (told now : Option Contents) (m : Contents) (d least handle room : ℕ) (p : Part) → now ≡ told → CanEdit told m d least p handle room → CanEdit now m d least p handle room
 edit_kept told now m d least handle room p same e = record { walk = walk_kept told now m d least handle room p same e.walk; once = e.once }
 
 pub goes : (told read : Option Contents) (handle room : ℕ) (bytes rest : List ℕ) (leaf : Bool) (n : ℕ) (k front back : List ℕ) (child : ℕ) → Got told handle bytes → HeadRead bytes leaf n rest → leaf ≡ false → WayRead k rest n front child back → read ≡ told → AllGo told read handle room n k front back child
@@ -227,6 +227,12 @@ pub below_reads : (told read : Option Contents) (handle room n : ℕ) (k front b
 below_reads told read handle room n k front back child go before mid after step next m d least p e =
     let g = go m d least p e in
     omega (arith, g.one_more, step, next m g.low 16 g.q g.edit)
+
+-- below the child two nodes less were added, and the child became two at most
+pub below_grows : (told read : Option Contents) (handle room n : ℕ) (k front back : List ℕ) (child : ℕ) → AllGo told read handle room n k front back child → (before mid below after : ℕ) → mid ≡ before → after ≤ below + 2 * 35952 → ((m : Contents) (d least : ℕ) (p : Part) → CanEdit read m d least p child (room - 1) → AddsNodes (2 * d) mid below) → (m : Contents) (d least : ℕ) (p : Part) → CanEdit told m d least p handle room → AddsNodes (2 * d) before after
+below_grows told read handle room n k front back child go before mid below after same last next m d least p e =
+    let g = go m d least p e in
+    omega (arith, g.one_more, same, last, next m g.low 16 g.q g.edit)
 
 -- what can be stored of the child
 storable : (read now : Option Contents) (m : Contents) (d child room : ℕ) (q : Part) (k v node : List ℕ) → length k ≤ 1100 → length v ≤ 16 → CanEdit read m d 16 q child room → (i : IsEdited now m d 16 q (insert k v q.pairs) node) → CanStore now i.new d child node (insert k v q.pairs) i.lifts.under

@@ -1,12 +1,13 @@
 -- A set from the root of a tree.
-use Rattle.std.proofs.Common.{◌≡◌, ℕ, ◌+◌, ◌≤◌, List, length, Option, Some, Result, OnOk, ◌∙◌, arith}
+use Rattle.std.proofs.Common.{◌≡◌, ℕ, ◌+◌, ◌*◌, ◌≤◌, List, length, Option, Some, Result, OnOk, ◌∙◌, arith}
 use Rattle.lldb_base.specs.Contents.{Contents}
 use Rattle.lldb_base.specs.declared.trouble.Trouble.{Trouble}
 use Rattle.lldb_btree.specs.declared.node.Pair.{Pair}
 use Rattle.lldb_btree.specs.Changes.{CanEdit, IsEdited, CanRoot}
 use Rattle.lldb_btree.specs.Nodes.{spelling}
 use Rattle.lldb_btree.specs.Pairs.{insert}
-use Rattle.lldb_btree.specs.Trees.{Part, IsTold, IsTree, MayBeNoTree, HoldsTree, least_of}
+use Rattle.lldb_btree.specs.Splicing.{AddsNodes}
+use Rattle.lldb_btree.specs.Trees.{Part, IsTold, IsTree, MayBeNoTree, HoldsTree, IsCleared, least_of}
 use Rattle.lldb_btree.proofs.Below.{NoEdit}
 use Rattle.lldb_btree.proofs.Inserts.{insert_sorted}
 use Rattle.lldb_btree.proofs.Roots.{root_part}
@@ -59,3 +60,16 @@ pub root_reads : (told : Option Contents) (handle before after : ℕ) → ((m : 
 root_reads told handle before after next levels pairs footprint t =
     let most : after ≤ before + (t.tree.d + 1) = next t.map t.tree.d (least_of t.tree.d) (root_part handle pairs footprint) (root_edit told handle levels pairs footprint t) in
     omega (arith, most, t.tree.depth)
+
+pub root_grows : (told : Option Contents) (handle before mid after : ℕ) → after ≤ mid + 3 * 35952 → ((m : Contents) (d least : ℕ) (p : Part) → CanEdit told m d least p handle 17 → AddsNodes (2 * d) before mid) → (levels : ℕ) (pairs : List Pair) (footprint : List ℕ) → IsTold told handle levels pairs footprint → AddsNodes (2 * levels + 1) before after
+root_grows told handle before mid after last next levels pairs footprint t =
+    let most : mid ≤ before + 2 * t.tree.d * 35952 = next t.map t.tree.d (least_of t.tree.d) (root_part handle pairs footprint) (root_edit told handle levels pairs footprint t) in
+    omega (arith, most, last, t.tree.depth)
+
+pub root_cleared : (told now : Option Contents) (handle : ℕ) (r : Result (Unit {0}) Trouble) → ((m : Contents) (d least : ℕ) (p : Part) → CanEdit told m d least p handle 17 → OnOk r (IsCleared now m p.footprint)) → (map : Contents) (levels : ℕ) (pairs : List Pair) (footprint : List ℕ) → told ≡ Some map → IsTree map handle levels pairs footprint → OnOk r (IsCleared now map footprint)
+root_cleared told now handle r gone map levels pairs footprint is tree =
+    let t : IsTold told handle levels pairs footprint = record { map = map; is = is; tree = tree } in
+    gone t.map t.tree.d (least_of t.tree.d) (root_part handle pairs footprint) (root_edit told handle levels pairs footprint t)
+
+pub all_reads : (told : Option Contents) (handle before after : ℕ) → ((m : Contents) (d least : ℕ) (p : Part) → CanEdit told m d least p handle 17 → after ≤ before + length p.footprint) → (levels : ℕ) (pairs : List Pair) (footprint : List ℕ) → IsTold told handle levels pairs footprint → after ≤ before + length footprint
+all_reads told handle before after next levels pairs footprint t = next t.map t.tree.d (least_of t.tree.d) (root_part handle pairs footprint) (root_edit told handle levels pairs footprint t)

@@ -33,3 +33,4 @@ pub mod FromRoot
 pub mod Full
 pub mod Past
 pub mod Ends
+pub mod Clearing

@@ -36,7 +36,7 @@ pub put_other : (n h : ℕ) (c : List ℕ) (m : Contents) → is_eq (nat_cmp n h
 put_other n h c [] apart = ap (λ (b : Bool). cond b (Some c) None) apart
 put_other n h c (e ∷ es) apart = other_step n h c e es apart (put_other n h c es apart) (nat_cmp h e.0) refl
 
-apart_from : (n h : ℕ) → (n ≡ h → ⊥) → (o : Ordering) → nat_cmp n h ≡ o → is_eq o ≡ false
+pub apart_from : (n h : ℕ) → (n ≡ h → ⊥) → (o : Ordering) → nat_cmp n h ≡ o → is_eq o ≡ false
 apart_from n h ne Less is = refl
 apart_from n h ne Equal is = absurd (ne (ranked n h Equal (sym is)))
 apart_from n h ne Greater is = refl

@@ -75,3 +75,13 @@ pub record CanRoot (told : Option Contents) (old m : Contents) (d handle : ℕ) 
   pub enough : least_of d ≤ count node
   pub few : count node ≤ 33
   pub sorted : IsSorted pairs
+
+-- these bytes are the entries of so many children that stand, within the levels that are left, with no handle twice
+pub record CanClear (told : Option Contents) (m : Contents) (d : ℕ) (parts : List Part) (bytes : List ℕ) (many room : ℕ) : Type 0 where
+  pub is : told ≡ Some m
+  pub each : AllByRecursion (IsNode (IsOver m d) m 16) parts
+  pub counted : length parts ≡ many
+  pub spelled : bytes ≡ body (map child_entry (map child_of parts))
+  pub within : d < room
+  pub sorted : IsSorted (pairs_of parts)
+  pub once : (n : ℕ) → times n (footprint_of parts) ≤ 1

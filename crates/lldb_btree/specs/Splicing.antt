@@ -1,5 +1,5 @@
 -- Runs of a node's entries.
-use Rattle.std.specs.Prelude.{◌≡◌, ℕ, ◌+◌, ◌^◌, ◌<◌, ◌≤◌, List, [], ◌∷◌, ◌++◌, length, map, Bool, false, Option, Some}
+use Rattle.std.specs.Prelude.{◌≡◌, ℕ, ◌+◌, ◌*◌, ◌^◌, ◌<◌, ◌≤◌, List, [], ◌∷◌, ◌++◌, length, map, Bool, false, Option, Some}
 use Rattle.std.specs.Int.{w64, to_be_bytes}
 use Rattle.std.specs.List.{AllByRecursion}
 use Rattle.std.specs.Ordering.{match_ordering}
@@ -51,3 +51,7 @@ pub record IsFullFor (limit : Option ℕ) (size need most : ℕ) : Type 0 where
   pub over_size : size < need
   pub over_limit : most < need
   pub needed : need ≤ size + 35952
+
+-- a heap has grown by the bytes of so many nodes and of a beginning with each, at most
+abbrev pub AddsNodes : ℕ → ℕ → ℕ → Type 0
+AddsNodes many size_old size_new = size_new ≤ size_old + many * 35952

@@ -98,3 +98,9 @@ pub record HoldsTree (now : Option Contents) (old : Contents) (handle levels : �
   pub edits : Edits old new footprint footprint_now
   pub higher : levels_now ≤ levels + 1
   pub grows : length footprint_now ≤ length footprint + levels + 1
+
+-- the handles of a footprint are no longer live, and the rest of the heap is as it was
+pub record IsCleared (now : Option Contents) (old : Contents) (footprint : List ℕ) : Type 0 where
+  pub new : Contents
+  pub told : now ≡ Some new
+  pub edits : Edits old new footprint []

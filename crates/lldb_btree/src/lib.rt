@@ -4,6 +4,7 @@
 mod bound;
 mod cursor;
 mod decode;
+mod destroy;
 mod entry;
 mod laws;
 mod look;

@@ -1,5 +1,5 @@
 //! Setting a pair below a node: the bytes of the node that comes of it.
-ghost use Rattle.std.specs.Prelude.{◌≡◌, ℕ, ◌+◌, ◌<◌, ◌≤◌, true, false, Bool, List, [], ◌∷◌, length, map, Some, None, IsTrue, IfOk, OnOk, IfSome, IsSomeAnd};
+ghost use Rattle.std.specs.Prelude.{◌≡◌, ℕ, ◌+◌, ◌*◌, ◌<◌, ◌≤◌, true, false, Bool, List, [], ◌∷◌, length, map, Some, None, IsTrue, IfOk, OnOk, IfSome, IsSomeAnd};
 ghost use Rattle.std.specs.List.{AllByRecursion};
 ghost use Rattle.lldb_base.specs.Contents.{Contents, content_of, with_content};
 ghost use Rattle.lldb_base.specs.Heaps.{MayBeDead};
@@ -9,7 +9,7 @@ ghost use Rattle.lldb_btree.specs.Changes.{CanEdit, IsEdited, CanStore, IsStored
 ghost use Rattle.lldb_btree.specs.Frames.{KeepsLevels};
 ghost use Rattle.lldb_btree.specs.Nodes.{Entry, IsEntry, spelling, body, entry_bytes, pair_entry, child_entry, FitsChild};
 ghost use Rattle.lldb_btree.specs.Pairs.{FitsPair, insert};
-ghost use Rattle.lldb_btree.specs.Splicing.{past_key, IsWay, IsFullFor};
+ghost use Rattle.lldb_btree.specs.Splicing.{past_key, AddsNodes, IsWay, IsFullFor};
 ghost use Rattle.lldb_btree.specs.Trees.{Part, greatest};
 ghost use Rattle.lldb_btree.specs.declared.bound.Bound.TheVariants as bound;
 ghost use Rattle.lldb_btree.specs.declared.node.Child as child;
@@ -152,6 +152,9 @@ pub(crate) fn set_below<H: Heap>(
     ensures refuses { Refuses (IsFullFor (H.limit_of heap.old) (H.size_of heap.new))
         ((m : Contents) (d least : ℕ) (p : Part) → CanEdit (H.map_of heap.old) m d least p handle
         room → ⊥) result }
+    ensures most { AddsNodes (2 * room) (H.size_of heap.old) (H.size_of heap.new) }
+    ensures grows { (m : Contents) (d least : ℕ) (p : Part) → CanEdit (H.map_of heap.old) m d least
+        p handle room → AddsNodes (2 * d) (H.size_of heap.old) (H.size_of heap.new) }
     ensures reads { (m : Contents) (d least : ℕ) (p : Part) → CanEdit (H.map_of heap.old) m d least
         p handle room → H.reads_of heap.new ≤ H.reads_of heap.old + (d + 1) }
     ensures frame { KeepsLevels H.saved H.saved_sizes H.limit_of H.is_sound H.told H.left H.fixed

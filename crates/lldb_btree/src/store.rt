@@ -6,7 +6,7 @@ ghost use Rattle.lldb_base.specs.Trouble.{IsCausedTrouble, Refuses};
 ghost use Rattle.lldb_btree.specs.Changes.{CanStore, IsStored, CanRoot};
 ghost use Rattle.lldb_btree.specs.Frames.{KeepsLevels};
 ghost use Rattle.lldb_btree.specs.Nodes.{count};
-ghost use Rattle.lldb_btree.specs.Splicing.{IsFullFor};
+ghost use Rattle.lldb_btree.specs.Splicing.{AddsNodes, IsFullFor};
 ghost use Rattle.lldb_btree.specs.Trees.{HoldsTree, greatest};
 ghost use Rattle.lldb_btree.specs.declared.node.Pair as pair;
 
@@ -39,6 +39,7 @@ fn save<H: Heap>(heap: &mut H, handle: u64, node: &[u8]) -> Result<(), Trouble>
     ensures ready { OnOk result (H.is_ready heap.new ≡ true) }
     ensures refuses { Refuses (IsFullFor (H.limit_of heap.old) (H.size_of heap.new))
         (length node.now ≤ 35810 → MayBeDead handle (H.map_of heap.old)) result }
+    ensures grows { AddsNodes 1 (H.size_of heap.old) (H.size_of heap.new) }
     ensures reads { H.reads_of heap.new ≡ H.reads_of heap.old }
     ensures frame { KeepsLevels H.saved H.saved_sizes H.limit_of H.is_sound H.told H.left H.fixed
         heap.old heap.new }
@@ -63,6 +64,7 @@ fn make<H: Heap>(heap: &mut H, node: &[u8]) -> Result<u64, Trouble>
     ensures ready { OnOk result (H.is_ready heap.new ≡ true) }
     ensures refuses { Refuses (IsFullFor (H.limit_of heap.old) (H.size_of heap.new))
         (length node.now ≤ 35810 → H.map_of heap.old ≡ None) result }
+    ensures grows { AddsNodes 1 (H.size_of heap.old) (H.size_of heap.new) }
     ensures reads { H.reads_of heap.new ≡ H.reads_of heap.old }
     ensures frame { KeepsLevels H.saved H.saved_sizes H.limit_of H.is_sound H.told H.left H.fixed
         heap.old heap.new }
@@ -92,6 +94,7 @@ fn store_two<H: Heap>(
     ensures refuses { Refuses (IsFullFor (H.limit_of heap.old) (H.size_of heap.new))
         ((m : Contents) (d : ℕ) (pairs : List pair.Pair) (under : List ℕ) → (c : CanStore
         (H.map_of heap.old) m d handle node.now pairs under) → 33 ≤ count c.node → ⊥) result }
+    ensures grows { AddsNodes 2 (H.size_of heap.old) (H.size_of heap.new) }
     ensures reads { H.reads_of heap.new ≡ H.reads_of heap.old }
     ensures frame { KeepsLevels H.saved H.saved_sizes H.limit_of H.is_sound H.told H.left H.fixed
         heap.old heap.new }
@@ -127,6 +130,7 @@ fn store_one<H: Heap>(
     ensures refuses { Refuses (IsFullFor (H.limit_of heap.old) (H.size_of heap.new))
         ((m : Contents) (d : ℕ) (pairs : List pair.Pair) (under : List ℕ) → (c : CanStore
         (H.map_of heap.old) m d handle node.now pairs under) → count c.node ≤ 32 → ⊥) result }
+    ensures grows { AddsNodes 1 (H.size_of heap.old) (H.size_of heap.new) }
     ensures reads { H.reads_of heap.new ≡ H.reads_of heap.old }
     ensures frame { KeepsLevels H.saved H.saved_sizes H.limit_of H.is_sound H.told H.left H.fixed
         heap.old heap.new }
@@ -160,6 +164,7 @@ pub(crate) fn store<H: Heap>(
     ensures refuses { Refuses (IsFullFor (H.limit_of heap.old) (H.size_of heap.new))
         ((m : Contents) (d : ℕ) (pairs : List pair.Pair) (under : List ℕ) → CanStore
         (H.map_of heap.old) m d handle node.now pairs under → ⊥) result }
+    ensures grows { AddsNodes 2 (H.size_of heap.old) (H.size_of heap.new) }
     ensures reads { H.reads_of heap.new ≡ H.reads_of heap.old }
     ensures frame { KeepsLevels H.saved H.saved_sizes H.limit_of H.is_sound H.told H.left H.fixed
         heap.old heap.new }
@@ -187,6 +192,7 @@ fn save_two<H: Heap>(alloc: Global, heap: &mut H, handle: u64, node: &[u8]) -> R
     ensures refuses { Refuses (IsFullFor (H.limit_of heap.old) (H.size_of heap.new))
         ((old m : Contents) (d : ℕ) (before : List ℕ) (pairs : List pair.Pair) → (c : CanRoot
         (H.map_of heap.old) old m d handle before node.now pairs) → 33 ≤ count c.node → ⊥) result }
+    ensures grows { AddsNodes 3 (H.size_of heap.old) (H.size_of heap.new) }
     ensures reads { H.reads_of heap.new ≡ H.reads_of heap.old }
     ensures frame { KeepsLevels H.saved H.saved_sizes H.limit_of H.is_sound H.told H.left H.fixed
         heap.old heap.new }
@@ -218,6 +224,7 @@ pub(crate) fn save_root<H: Heap>(
     ensures refuses { Refuses (IsFullFor (H.limit_of heap.old) (H.size_of heap.new))
         ((old m : Contents) (d : ℕ) (before : List ℕ) (pairs : List pair.Pair) → CanRoot
         (H.map_of heap.old) old m d handle before node.now pairs → ⊥) result }
+    ensures grows { AddsNodes 3 (H.size_of heap.old) (H.size_of heap.new) }
     ensures reads { H.reads_of heap.new ≡ H.reads_of heap.old }
     ensures frame { KeepsLevels H.saved H.saved_sizes H.limit_of H.is_sound H.told H.left H.fixed
         heap.old heap.new }

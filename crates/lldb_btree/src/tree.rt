@@ -1,14 +1,15 @@
 //! Trees.
-ghost use Rattle.std.specs.Prelude.{◌≡◌, ℕ, ◌+◌, ◌≤◌, List, [], length, Some, IsTrue, IfOk, OnOk, OnErr, true, false};
+ghost use Rattle.std.specs.Prelude.{◌≡◌, ℕ, ◌+◌, ◌*◌, ◌≤◌, List, [], length, Some, IsTrue, IfOk, OnOk, OnErr, true, false};
 ghost use Rattle.lldb_base.specs.Contents.{Contents, atoms_for};
-ghost use Rattle.lldb_base.specs.Heaps.{IsFull};
+ghost use Rattle.lldb_base.specs.Heaps.{IsFull, most_added};
 ghost use Rattle.lldb_base.specs.Trouble.{IsCausedTrouble, Refuses};
 ghost use Rattle.lldb_btree.specs.Frames.{KeepsContents, KeepsLevels, UnlessYes};
 ghost use Rattle.lldb_btree.specs.Pairs.{find, insert, value_in, IsFound};
-ghost use Rattle.lldb_btree.specs.Splicing.{IsFullFor};
-ghost use Rattle.lldb_btree.specs.Trees.{IsTree, IsTold, MayBeNoTree, HoldsTree};
+ghost use Rattle.lldb_btree.specs.Splicing.{AddsNodes, IsFullFor};
+ghost use Rattle.lldb_btree.specs.Trees.{IsTree, IsTold, MayBeNoTree, HoldsTree, IsCleared};
 ghost use Rattle.lldb_btree.specs.declared.node.Pair as pair;
 
+use crate::destroy::clear_node;
 use crate::set::{Put, set_below};
 use crate::store::save_root;
 use crate::walk::{LEVELS, first_of_tree, levels_under};
@@ -45,6 +46,8 @@ impl Tree {
         ensures ready { OnOk result (H.is_ready heap.new ≡ true) }
         ensures refuses { Refuses (IsFull (atoms_for 2) (H.most_free heap.old) (H.size_of heap.old)
             (H.size_of heap.new) (H.limit_of heap.old)) (H.map_of heap.old ≡ None) result }
+        ensures grows { H.size_of heap.new ≤ H.size_of heap.old + most_added (atoms_for 2)
+            (H.size_of heap.old) }
         ensures reads { H.reads_of heap.new ≡ H.reads_of heap.old }
         ensures frame { KeepsLevels H.saved H.saved_sizes H.limit_of H.is_sound H.told H.left
             H.fixed heap.old heap.new }
@@ -110,6 +113,10 @@ impl Tree {
         ensures ready { OnOk result (H.is_ready heap.new ≡ true) }
         ensures refuses { Refuses (IsFullFor (H.limit_of heap.old) (H.size_of heap.new))
             (MayBeNoTree self.now.handle (H.map_of heap.old)) result }
+        ensures most { AddsNodes 37 (H.size_of heap.old) (H.size_of heap.new) }
+        ensures grows { (levels : ℕ) (pairs : List pair.Pair) (footprint : List ℕ) → IsTold
+            (H.map_of heap.old) self.now.handle levels pairs footprint → AddsNodes (2 * levels + 1)
+            (H.size_of heap.old) (H.size_of heap.new) }
         ensures reads { (levels : ℕ) (pairs : List pair.Pair) (footprint : List ℕ) → IsTold
             (H.map_of heap.old) self.now.handle levels pairs footprint → H.reads_of heap.new
             ≤ H.reads_of heap.old + levels }
@@ -120,6 +127,26 @@ impl Tree {
         let put = Put::new(alloc, key, value)?;
         let root = set_below(alloc, heap, self.handle, LEVELS, &put)?;
         save_root(alloc, heap, self.handle, root.node.as_slice())
+    }
+
+    /// Removes the nodes of the tree and nothing else. After a refusal the tree is to be rolled back.
+    pub fn destroy<H: Heap>(self, alloc: Global, heap: &mut H) -> Result<(), Trouble>
+        requires ready { IsTrue (H.is_ready heap.old) }
+        requires depth { 1 ≤ length (H.saved heap.old) }
+        ensures destroyed { (map : Contents) (levels : ℕ) (pairs : List pair.Pair)
+            (footprint : List ℕ) → H.map_of heap.old ≡ Some map → IsTree map self.handle levels
+            pairs footprint → OnOk result (IsCleared (H.map_of heap.new) map footprint) }
+        ensures ready { OnOk result (H.is_ready heap.new ≡ true) }
+        ensures refuses { Refuses (λ _ _. ⊥) (MayBeNoTree self.handle (H.map_of heap.old)) result }
+        ensures shrinks { H.size_of heap.new ≤ H.size_of heap.old }
+        ensures reads { (levels : ℕ) (pairs : List pair.Pair) (footprint : List ℕ) → IsTold
+            (H.map_of heap.old) self.handle levels pairs footprint → H.reads_of heap.new
+            ≤ H.reads_of heap.old + length footprint }
+        ensures frame { KeepsLevels H.saved H.saved_sizes H.limit_of H.is_sound H.told H.left
+            H.fixed heap.old heap.new }
+        ensures cause { IsCausedTrouble result (H.faults heap.old) (H.faults heap.new) }
+    {
+        clear_node(alloc, heap, self.handle, LEVELS)
     }
 
     /// How many levels the tree has: 1 where its root is a leaf.

@@ -20,17 +20,21 @@ use std::alloc::Global;
 use std::collections::BTreeSet;
 
 /// What UPDATE and DELETE see.
-fn table_scope(alloc: Global, name: &[u8], columns: &ColumnDefs) -> Result<Scope, NoMemory>
+fn table_scope<'a>(
+    alloc: Global,
+    name: &'a [u8],
+    columns: &'a ColumnDefs,
+) -> Result<Scope<'a>, NoMemory>
     ensures { IfOk result (λ scope. scope ≡ spec.table_scope name.now columns.now) }
 {
-    let slots = add_slots(alloc, Slots::new(alloc), name, columns)?;
+    let slots = add_slots(Slots::new(alloc), name, columns)?;
     Ok(row_scope(alloc, slots))
 }
 
 /// A value that a row sees, for a column.
 fn value_for(
     alloc: Global,
-    scope: &Scope,
+    scope: &Scope<'_>,
     target: Target,
     expr: &Expr,
 ) -> Result<Assigned, CheckFault>
@@ -47,7 +51,7 @@ fn value_for(
 /// An assignment behind those of other columns.
 fn assigned<'a>(
     alloc: Global,
-    scope: &Scope,
+    scope: &Scope<'_>,
     columns: &[ColumnDef],
     names: &mut BTreeSet<&'a [u8]>,
     assign: &'a Assign,
@@ -64,7 +68,7 @@ fn assigned<'a>(
 /// The assignments of an UPDATE.
 fn all_assigned(
     alloc: Global,
-    scope: &Scope,
+    scope: &Scope<'_>,
     columns: &[ColumnDef],
     sets: &[Assign],
 ) -> Result<AssignedList, CheckFault>
@@ -118,7 +122,7 @@ fn changes_plan(
 /// The plan of an UPDATE of a table that is there.
 fn changes_of(
     alloc: Global,
-    scope: &Scope,
+    scope: &Scope<'_>,
     columns: &[ColumnDef],
     sets: &Assigns,
     filter: &Option<Boxed<Expr>>,

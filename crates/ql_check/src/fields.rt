@@ -13,7 +13,7 @@ ghost use Rattle.ql_check.specs.Outputs.{name_or_none, slot_for};
 use ql_check_expr::{CheckFault, check_expr, has_aggregate, of_type, qualified_name};
 use ql_edge::{Boxed, Bytes, Name, NoMemory};
 use ql_rel::{ResultField, ResultFields, Target};
-use ql_syntax::{Checked, Expr, Field, Fields, Scope, Slot, Slots, Typed, Typing};
+use ql_syntax::{Checked, Expr, Field, Fields, NameRef, Scope, Slot, Slots, Typed, Typing};
 use ql_value::{COUNT, Kind, Refusal};
 use std::alloc::Global;
 
@@ -53,7 +53,7 @@ fn field_name(alloc: Global, alias: &Option<Boxed<Name>>, expr: &Expr) -> Result
 }
 
 /// A field.
-fn result_field(alloc: Global, scope: &Scope, field: &Field) -> Result<ResultField, CheckFault>
+fn result_field(alloc: Global, scope: &Scope<'_>, field: &Field) -> Result<ResultField, CheckFault>
     ensures { let layer = out-Field field.now in
         Gives (spec.result_field scope.now layer.alias layer.expr) result }
 {
@@ -63,7 +63,11 @@ fn result_field(alloc: Global, scope: &Scope, field: &Field) -> Result<ResultFie
 }
 
 /// Fields that are written.
-fn written_fields(alloc: Global, scope: &Scope, fields: &Fields) -> Result<ResultFields, CheckFault>
+fn written_fields(
+    alloc: Global,
+    scope: &Scope<'_>,
+    fields: &Fields,
+) -> Result<ResultFields, CheckFault>
     ensures { Gives (spec.written_fields scope.now fields.now) result }
 {
     let mut list = ResultFields::new(alloc);
@@ -74,7 +78,7 @@ fn written_fields(alloc: Global, scope: &Scope, fields: &Fields) -> Result<Resul
 }
 
 /// Whether the slot is the id of a record set with a name.
-fn is_named_set(slot: &Slot) -> bool
+fn is_named_set(slot: &Slot<'_>) -> bool
     ensures { result ≡ spec.is_named_set slot.now.set slot.now.column }
 {
     match (&slot.set, &slot.column) {
@@ -84,7 +88,7 @@ fn is_named_set(slot: &Slot) -> bool
 }
 
 /// Whether two record sets or more have a name.
-fn are_several(slots: &[Slot]) -> bool
+fn are_several(slots: &[Slot<'_>]) -> bool
     ensures { result ≡ spec.are_several slots.now }
 {
     let mut one = false;
@@ -103,7 +107,7 @@ fn are_several(slots: &[Slot]) -> bool
 fn star_name(
     alloc: Global,
     several: bool,
-    set: &Option<Bytes>,
+    set: &Option<NameRef<'_>>,
     column: &[u8],
 ) -> Result<Bytes, NoMemory>
     ensures { IfOk result (λ name. name ≡ spec.star_name several set.now column.now) }
@@ -119,7 +123,7 @@ fn add_star_field(
     alloc: Global,
     several: bool,
     at: usize,
-    slot: &Slot,
+    slot: &Slot<'_>,
     before: ResultFields,
 ) -> Result<ResultFields, NoMemory>
     ensures { let more = spec.star_field several at slot.now slot.now.column in
@@ -138,7 +142,7 @@ fn add_star_field(
 }
 
 /// The fields of `*`.
-fn star_fields(alloc: Global, several: bool, slots: &[Slot]) -> Result<ResultFields, NoMemory>
+fn star_fields(alloc: Global, several: bool, slots: &[Slot<'_>]) -> Result<ResultFields, NoMemory>
     ensures { IfOk result (λ list. list ≡ spec.star_fields several 0 slots.now) }
 {
     let mut list = ResultFields::new(alloc);
@@ -149,7 +153,7 @@ fn star_fields(alloc: Global, several: bool, slots: &[Slot]) -> Result<ResultFie
 }
 
 /// `*`
-fn star(alloc: Global, slots: &[Slot]) -> Result<ResultFields, CheckFault>
+fn star(alloc: Global, slots: &[Slot<'_>]) -> Result<ResultFields, CheckFault>
     ensures { Gives (spec.star slots.now) result }
 {
     if slots.is_empty() {
@@ -161,7 +165,7 @@ fn star(alloc: Global, slots: &[Slot]) -> Result<ResultFields, CheckFault>
 /// What a SELECT shows.
 pub(crate) fn fields_of(
     alloc: Global,
-    scope: &Scope,
+    scope: &Scope<'_>,
     fields: &Fields,
 ) -> Result<ResultFields, CheckFault>
     ensures { Gives (spec.result_fields scope.now fields.now) result }
@@ -185,24 +189,24 @@ pub(crate) fn any_aggregate(fields: &[ResultField]) -> bool
 }
 
 /// The name of a field as that of a place.
-fn place_name(alloc: Global, name: &Bytes) -> Result<Option<Bytes>, NoMemory>
-    ensures { IfOk result (λ column. column ≡ spec.place_name name.now) }
+fn place_name(name: &Bytes) -> Option<NameRef<'_>>
+    ensures { result ≡ spec.place_name name.now }
 {
     if name.len() == 0 {
-        return Ok(None);
+        return None;
     }
-    Ok(Some(Bytes::from_slice(alloc, name.as_slice())?))
+    Some(NameRef::new(name.as_slice()))
 }
 
 /// A field as a place behind the row.
-fn field_slot(alloc: Global, field: &ResultField) -> Result<Slot, NoMemory>
-    ensures { IfOk result (λ slot. slot ≡ spec.field_slot field.now) }
+fn field_slot(field: &ResultField) -> Slot<'_>
+    ensures { result ≡ spec.field_slot field.now }
 {
-    Ok(Slot {
+    Slot {
         set: None,
-        column: place_name(alloc, &field.name)?,
+        column: place_name(&field.name),
         typing: field.expr.typing,
-    })
+    }
 }
 
 /// The type of an expression that is for a column of a kind.
@@ -218,42 +222,37 @@ fn met_typing(kind: Kind, expr: &Checked) -> Typing
 }
 
 /// A field as a place, where it is for a column of a kind.
-fn met_slot(alloc: Global, kind: Kind, field: &ResultField) -> Result<Slot, NoMemory>
-    ensures { IfOk result (λ slot. slot ≡ spec.met_slot kind field.now) }
+fn met_slot(kind: Kind, field: &ResultField) -> Slot<'_>
+    ensures { result ≡ spec.met_slot kind field.now }
 {
-    Ok(Slot {
+    Slot {
         set: None,
-        column: place_name(alloc, &field.name)?,
+        column: place_name(&field.name),
         typing: met_typing(kind, &field.expr),
-    })
+    }
 }
 
 /// A field as a place, where it is for the column at a number or for none.
-fn slot_at(
-    alloc: Global,
-    targets: &[Target],
-    at: usize,
-    field: &ResultField,
-) -> Result<Slot, NoMemory>
-    ensures { IfOk result (λ slot. slot ≡ slot_for (slice_get targets.now at) field.now) }
+fn slot_at<'a>(targets: &[Target], at: usize, field: &'a ResultField) -> Slot<'a>
+    ensures { result ≡ slot_for (slice_get targets.now at) field.now }
 {
     match targets.get(at) {
-        Some(target) => met_slot(alloc, target.kind, field),
-        None => field_slot(alloc, field),
+        Some(target) => met_slot(target.kind, field),
+        None => field_slot(field),
     }
 }
 
 /// The fields as places behind the row: the first of them are for these columns.
-pub(crate) fn field_slots(
+pub(crate) fn field_slots<'a>(
     alloc: Global,
     targets: &[Target],
-    fields: &[ResultField],
-) -> Result<Slots, NoMemory>
+    fields: &'a [ResultField],
+) -> Result<Slots<'a>, NoMemory>
     ensures { IfOk result (λ slots. slots ≡ spec.field_slots (kinds_of targets.now) fields.now) }
 {
     let mut slots = Slots::new(alloc);
     'fields: for (at, field) in fields.iter().enumerate() {
-        slots.push(slot_at(alloc, targets, at, field)?)?;
+        slots.push(slot_at(targets, at, field))?;
     }
     Ok(slots)
 }

@@ -6,9 +6,11 @@ ghost use Rattle.ql_check_expr.specs.Gives.{Gives};
 ghost use Rattle.ql_check.specs.Found.{table_of};
 
 use ql_check_expr::{CheckFault, is_called};
-use ql_edge::{Boxed, Bytes, Name, NoMemory};
+use ql_edge::{Boxed, Name, NoMemory};
 use ql_rel::{Schema, TableSchema, TableSchemas};
-use ql_syntax::{ColumnDef, ColumnDefs, FromSet, FromSets, SetSource, Slot, Slots, Typing};
+use ql_syntax::{
+    ColumnDef, ColumnDefs, FromSet, FromSets, NameRef, SetSource, Slot, Slots, Typing,
+};
 use ql_value::{AMBIGUOUS, Kind, LATER, NO_TABLE, Refusal};
 use std::alloc::Global;
 
@@ -32,7 +34,7 @@ pub(crate) fn is_metadata(name: &[u8]) -> bool
 }
 
 /// Whether some record set has the name.
-fn is_taken(name: &[u8], slots: &[Slot]) -> bool
+fn is_taken(name: &[u8], slots: &[Slot<'_>]) -> bool
     ensures { result ≡ spec.is_taken name.now slots.now }
 {
     'slots: for slot in slots {
@@ -44,49 +46,46 @@ fn is_taken(name: &[u8], slots: &[Slot]) -> bool
 }
 
 /// A place for a column of a record set.
-fn column_slot(alloc: Global, set: &[u8], column: &ColumnDef) -> Result<Slot, NoMemory>
+fn column_slot<'a>(set: &'a [u8], column: &'a ColumnDef) -> Slot<'a>
     ensures { let typing = Typing.OfKind column.now.kind in
-        IfOk result
-        (λ slot. slot ≡
-        record { set = Some set.now; column = Some column.now.name; typing = typing }) }
+        result ≡ record { set = Some set.now; column = Some column.now.name; typing = typing } }
 {
-    Ok(Slot {
-        set: Some(Bytes::from_slice(alloc, set)?),
-        column: Some(Bytes::from_slice(alloc, column.name.as_slice())?),
+    Slot {
+        set: Some(NameRef::new(set)),
+        column: Some(NameRef::new(column.name.as_slice())),
         typing: Typing::OfKind(column.kind),
-    })
+    }
 }
 
 /// The places of a record set behind others.
-pub(crate) fn add_slots(
-    alloc: Global,
-    before: Slots,
-    set: &[u8],
-    columns: &ColumnDefs,
-) -> Result<Slots, NoMemory>
-    ensures { IfOk result (λ slots. slots ≡ before ++ spec.set_slots set.now columns.now) }
+pub(crate) fn add_slots<'a>(
+    before: Slots<'a>,
+    set: &'a [u8],
+    columns: &'a ColumnDefs,
+) -> Result<Slots<'a>, NoMemory>
+    ensures { IfOk result (λ slots. slots ≡ before.entry ++ spec.set_slots set.now columns.now) }
 {
     let mut slots = before;
     slots.push(Slot {
-        set: Some(Bytes::from_slice(alloc, set)?),
+        set: Some(NameRef::new(set)),
         column: None,
         typing: Typing::OfKind(Kind::Int64),
     })?;
     'columns: for column in columns.as_slice() {
-        slots.push(column_slot(alloc, set, column)?)?;
+        slots.push(column_slot(set, column))?;
     }
     Ok(slots)
 }
 
 /// A table as a further record set with a name.
-fn add_table(
+fn add_table<'a>(
     alloc: Global,
-    slots: Slots,
-    set: &[u8],
+    slots: Slots<'a>,
+    set: &'a [u8],
     name: &[u8],
-    table: Option<&TableSchema>,
-) -> Result<Slots, CheckFault>
-    ensures { Gives (spec.add_table slots set.now name.now (table_of table.entry)) result }
+    table: Option<&'a TableSchema>,
+) -> Result<Slots<'a>, CheckFault>
+    ensures { Gives (spec.add_table slots.entry set.now name.now (table_of table.entry)) result }
 {
     let Some(table) = table else {
         return Err(CheckFault::Refused(Refusal::with_name(alloc, NO_TABLE, name)?));
@@ -94,7 +93,7 @@ fn add_table(
     if is_taken(set, slots.as_slice()) {
         return Err(CheckFault::Refused(Refusal::with_name(alloc, AMBIGUOUS, set)?));
     }
-    Ok(add_slots(alloc, slots, set, &table.columns)?)
+    Ok(add_slots(slots, set, &table.columns)?)
 }
 
 /// What a record set is called.
@@ -108,14 +107,14 @@ fn set_name<'a>(alias: &'a Option<Boxed<Name>>, table: &'a Name) -> &'a [u8]
 }
 
 /// A further record set that is a table.
-fn add_named(
+fn add_named<'a>(
     alloc: Global,
-    schema: &Schema,
-    slots: Slots,
-    alias: &Option<Boxed<Name>>,
-    name: &Name,
-) -> Result<Slots, CheckFault>
-    ensures { Gives (spec.add_named schema.now slots alias.now name.now) result }
+    schema: &'a Schema,
+    slots: Slots<'a>,
+    alias: &'a Option<Boxed<Name>>,
+    name: &'a Name,
+) -> Result<Slots<'a>, CheckFault>
+    ensures { Gives (spec.add_named schema.now slots.entry alias.now name.now) result }
 {
     if is_metadata(name.as_slice()) {
         return Err(CheckFault::Refused(Refusal::new(alloc, LATER)));
@@ -125,8 +124,13 @@ fn add_named(
 }
 
 /// A further record set.
-fn add_set(alloc: Global, schema: &Schema, slots: Slots, set: &FromSet) -> Result<Slots, CheckFault>
-    ensures { Gives (spec.add_set schema.now slots set.now) result }
+fn add_set<'a>(
+    alloc: Global,
+    schema: &'a Schema,
+    slots: Slots<'a>,
+    set: &'a FromSet,
+) -> Result<Slots<'a>, CheckFault>
+    ensures { Gives (spec.add_set schema.now slots.entry set.now) result }
 {
     match &set.source {
         SetSource::Table(name) => add_named(alloc, schema, slots, &set.alias, name.get()),
@@ -135,7 +139,11 @@ fn add_set(alloc: Global, schema: &Schema, slots: Slots, set: &FromSet) -> Resul
 }
 
 /// The record sets of a FROM, from left to right.
-pub(crate) fn add_sets(alloc: Global, schema: &Schema, sets: &FromSets) -> Result<Slots, CheckFault>
+pub(crate) fn add_sets<'a>(
+    alloc: Global,
+    schema: &'a Schema,
+    sets: &'a FromSets,
+) -> Result<Slots<'a>, CheckFault>
     ensures { Gives (spec.add_sets schema.now [] sets.now) result }
 {
     let mut slots = Slots::new(alloc);

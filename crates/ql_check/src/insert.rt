@@ -25,7 +25,7 @@ use ql_value::{LATER, Refusal};
 use std::alloc::Global;
 
 /// Expressions without aggregate.
-fn check_each(alloc: Global, scope: &Scope, exprs: &Exprs) -> Result<CheckedList, CheckFault>
+fn check_each(alloc: Global, scope: &Scope<'_>, exprs: &Exprs) -> Result<CheckedList, CheckFault>
     ensures { Gives (all_of (map (check_expr scope.now false) exprs.now)) result }
 {
     let mut parts = CheckedList::with_capacity(alloc, exprs.len())?;
@@ -38,7 +38,7 @@ fn check_each(alloc: Global, scope: &Scope, exprs: &Exprs) -> Result<CheckedList
 /// A row of VALUES.
 fn value_row(
     alloc: Global,
-    scope: &Scope,
+    scope: &Scope<'_>,
     targets: &[Target],
     exprs: &Exprs,
 ) -> Result<Typeds, CheckFault>

@@ -16,8 +16,8 @@ use ql_value::{LATER, Refusal};
 use std::alloc::Global;
 
 /// A row, and no field.
-pub(crate) fn row_scope(alloc: Global, slots: Slots) -> Scope
-    ensures { result ≡ spec.row_scope slots }
+pub(crate) fn row_scope<'a>(alloc: Global, slots: Slots<'a>) -> Scope<'a>
+    ensures { result ≡ spec.row_scope slots.entry }
 {
     Scope {
         row: slots,
@@ -27,14 +27,15 @@ pub(crate) fn row_scope(alloc: Global, slots: Slots) -> Scope
 }
 
 /// What ORDER BY sees.
-fn key_scope(
+fn key_scope<'a>(
     alloc: Global,
     targets: &[Target],
     hides: bool,
-    scope: Scope,
-    fields: &ResultFields,
-) -> Result<Scope, NoMemory>
-    ensures { IfOk result (λ keys. keys ≡ spec.key_scope (kinds_of targets.now) hides scope fields.now) }
+    scope: Scope<'a>,
+    fields: &'a ResultFields,
+) -> Result<Scope<'a>, NoMemory>
+    ensures { IfOk result (λ keys.
+        keys ≡ spec.key_scope (kinds_of targets.now) hides scope.entry fields.now) }
 {
     let fields = field_slots(alloc, targets, fields.as_slice())?;
     let Scope { row, .. } = scope;
@@ -45,7 +46,7 @@ fn key_scope(
 fn resolve_among(
     alloc: Global,
     group: Group,
-    scope: &Scope,
+    scope: &Scope<'_>,
     expr: &Expr,
 ) -> Result<Typed, CheckFault>
     ensures { Gives (spec.resolve_among (test_of group) scope.now expr.now) result }
@@ -59,7 +60,7 @@ fn resolve_among(
 pub(crate) fn resolve_if(
     alloc: Global,
     group: Group,
-    scope: &Scope,
+    scope: &Scope<'_>,
     expr: &Option<Boxed<Expr>>,
 ) -> Result<Option<Typed>, CheckFault>
     ensures { Gives (spec.resolve_if (test_of group) scope.now expr.now) result }
@@ -71,7 +72,7 @@ pub(crate) fn resolve_if(
 }
 
 /// An expression without aggregate, of any type.
-fn resolve(alloc: Global, scope: &Scope, expr: &Expr) -> Result<Typed, CheckFault>
+fn resolve(alloc: Global, scope: &Scope<'_>, expr: &Expr) -> Result<Typed, CheckFault>
     ensures { Gives (spec.resolve scope.now expr.now) result }
 {
     let checked = check_expr(alloc, expr, scope, false)?;
@@ -79,7 +80,7 @@ fn resolve(alloc: Global, scope: &Scope, expr: &Expr) -> Result<Typed, CheckFaul
 }
 
 /// Expressions without aggregate, of any types.
-fn resolve_each(alloc: Global, scope: &Scope, exprs: &Exprs) -> Result<Typeds, CheckFault>
+fn resolve_each(alloc: Global, scope: &Scope<'_>, exprs: &Exprs) -> Result<Typeds, CheckFault>
     ensures { Gives (spec.resolve_each scope.now exprs.now) result }
 {
     let mut trees = Typeds::new(alloc);
@@ -100,7 +101,11 @@ fn without_join(alloc: Global, join: &Option<Boxed<Join>>) -> Result<(), CheckFa
 }
 
 /// FROM, join, WHERE and GROUP BY.
-fn source_of(alloc: Global, schema: &Schema, select: &Select) -> Result<Source, CheckFault>
+fn source_of<'a>(
+    alloc: Global,
+    schema: &'a Schema,
+    select: &'a Select,
+) -> Result<Source<'a>, CheckFault>
     ensures { Gives (spec.source_of schema.now select.now) result }
 {
     let slots = add_sets(alloc, schema, &select.sets)?;
@@ -116,15 +121,15 @@ fn source_of(alloc: Global, schema: &Schema, select: &Select) -> Result<Source, 
 }
 
 /// ORDER BY, behind the fields.
-fn keys_of(
+fn keys_of<'a>(
     alloc: Global,
     targets: &[Target],
     hides: bool,
-    scope: Scope,
-    fields: &ResultFields,
+    scope: Scope<'a>,
+    fields: &'a ResultFields,
     keys: &Exprs,
 ) -> Result<Typeds, CheckFault>
-    ensures { let sees = spec.key_scope (kinds_of targets.now) hides scope fields.now in
+    ensures { let sees = spec.key_scope (kinds_of targets.now) hides scope.entry fields.now in
         Gives (spec.resolve_each sees keys.now) result }
 {
     let scope = key_scope(alloc, targets, hides, scope, fields)?;
@@ -135,11 +140,11 @@ fn keys_of(
 fn output_of(
     alloc: Global,
     targets: &[Target],
-    scope: Scope,
+    scope: Scope<'_>,
     grouped: bool,
     select: &Select,
 ) -> Result<Output, CheckFault>
-    ensures { Gives (spec.output_of (kinds_of targets.now) scope grouped select.now) result }
+    ensures { Gives (spec.output_of (kinds_of targets.now) scope.entry grouped select.now) result }
 {
     let fields = fields_of(alloc, &scope, &select.fields)?;
     let grouped = grouped || any_aggregate(fields.as_slice());

@@ -10,12 +10,13 @@ ghost use Rattle.ql_check.specs.Found.{GivesTable};
 
 use crate::create::{no_parts, without_conditions};
 use crate::from::{is_metadata, table_named};
+use crate::insert::without_checks;
 use crate::names::{is_table, new_name};
 use ql_check_expr::CheckFault;
 use ql_edge::Name;
 use ql_rel::{Index, Indexes, Plan, Schema, TableSchema};
 use ql_syntax::ColumnDef;
-use ql_value::{COUNT, EXISTS, LATER, NO_COLUMN, NO_TABLE, RESERVED, Refusal};
+use ql_value::{COUNT, EXISTS, NO_COLUMN, NO_TABLE, RESERVED, Refusal};
 use std::alloc::Global;
 
 /// The table that a statement changes.
@@ -138,6 +139,7 @@ pub(crate) fn add_column_plan(
 {
     let table = known_table(alloc, name.as_slice(), schema)?;
     added_column(alloc, table, &schema.indexes, column)?;
+    without_checks(alloc, schema, table.columns.as_slice())?;
     Ok(no_parts(alloc))
 }
 
@@ -161,37 +163,12 @@ fn several_columns(alloc: Global, columns: &[ColumnDef]) -> Result<(), CheckFaul
     Err(CheckFault::Refused(Refusal::new(alloc, COUNT)))
 }
 
-/// Whether the column is another one and has a rule.
-fn is_rule_beside(name: &[u8], column: &ColumnDef) -> bool
-    ensures { result ≡ spec.is_rule_beside name.now column.now }
-{
-    column.name.as_slice() != name && !column.rule.is_none()
-}
-
-/// Whether another column has a rule.
-fn any_rule_beside(name: &[u8], columns: &[ColumnDef]) -> bool
-    ensures { result ≡ list_any (spec.is_rule_beside name.now) columns.now }
-{
-    columns.iter().any(|column| is_rule_beside(name, column))
-}
-
-/// Rules are not built yet.
-fn without_rules(alloc: Global, name: &[u8], columns: &[ColumnDef]) -> Result<(), CheckFault>
-    ensures { Gives (spec.without_rules name.now columns.now) result }
-{
-    if any_rule_beside(name, columns) {
-        return Err(CheckFault::Refused(Refusal::new(alloc, LATER)));
-    }
-    Ok(())
-}
-
 /// A column that is dropped.
 fn dropped_column(alloc: Global, name: &[u8], columns: &[ColumnDef]) -> Result<(), CheckFault>
     ensures { Gives (spec.dropped_column name.now columns.now) result }
 {
     column_there(alloc, name, columns)?;
-    several_columns(alloc, columns)?;
-    without_rules(alloc, name, columns)
+    several_columns(alloc, columns)
 }
 
 /// The plan of ALTER TABLE DROP COLUMN.
@@ -205,5 +182,6 @@ pub(crate) fn drop_column_plan(
 {
     let table = known_table(alloc, name.as_slice(), schema)?;
     dropped_column(alloc, column.as_slice(), table.columns.as_slice())?;
+    without_checks(alloc, schema, table.columns.as_slice())?;
     Ok(no_parts(alloc))
 }

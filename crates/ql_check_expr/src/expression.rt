@@ -86,7 +86,7 @@ fn is_id(function: Function) -> bool
 pub fn check_expr(
     alloc: Global,
     expr: &Expr,
-    scope: &Scope,
+    scope: &Scope<'_>,
     aggregates: bool,
 ) -> Result<Checked, CheckFault>
     ensures { Gives (spec.check_expr scope.now aggregates expr.now) result }
@@ -136,7 +136,7 @@ pub fn check_expr(
 fn check_chain(
     alloc: Global,
     expr: &Expr,
-    scope: &Scope,
+    scope: &Scope<'_>,
     aggregates: bool,
 ) -> Result<Checked, CheckFault>
     requires { IsChain expr.now }
@@ -157,7 +157,7 @@ fn check_chain(
 fn check_in(
     alloc: Global,
     expr: &Expr,
-    scope: &Scope,
+    scope: &Scope<'_>,
     aggregates: bool,
 ) -> Result<Checked, CheckFault>
     requires { IsIn expr.now }
@@ -179,7 +179,7 @@ fn check_in(
 fn check_between(
     alloc: Global,
     expr: &Expr,
-    scope: &Scope,
+    scope: &Scope<'_>,
     aggregates: bool,
 ) -> Result<Checked, CheckFault>
     requires { IsBetween expr.now }
@@ -207,7 +207,7 @@ fn check_between(
 fn check_unary(
     alloc: Global,
     part: &Expr,
-    scope: &Scope,
+    scope: &Scope<'_>,
     aggregates: bool,
     ops: &[UnOp],
 ) -> Result<Checked, CheckFault>
@@ -224,7 +224,7 @@ fn check_unary(
 fn check_paren(
     alloc: Global,
     part: &Expr,
-    scope: &Scope,
+    scope: &Scope<'_>,
     aggregates: bool,
 ) -> Result<Checked, CheckFault>
     ensures { Gives (then_with (spec.check_expr scope.now aggregates part.now)
@@ -240,7 +240,7 @@ fn check_paren(
 fn check_convert(
     alloc: Global,
     part: &Expr,
-    scope: &Scope,
+    scope: &Scope<'_>,
     aggregates: bool,
     kind: Kind,
 ) -> Result<Checked, CheckFault>
@@ -257,7 +257,7 @@ fn check_convert(
 fn check_in_select(
     alloc: Global,
     part: &Expr,
-    scope: &Scope,
+    scope: &Scope<'_>,
     aggregates: bool,
 ) -> Result<Checked, CheckFault>
     ensures { Gives (then_with (spec.check_expr scope.now aggregates part.now)
@@ -273,7 +273,7 @@ fn check_in_select(
 fn check_null_test(
     alloc: Global,
     part: &Expr,
-    scope: &Scope,
+    scope: &Scope<'_>,
     aggregates: bool,
     negated: bool,
 ) -> Result<Checked, CheckFault>
@@ -290,7 +290,7 @@ fn check_null_test(
 fn check_links(
     alloc: Global,
     links: &Links,
-    scope: &Scope,
+    scope: &Scope<'_>,
     aggregates: bool,
     first: Checked,
 ) -> Result<Checked, CheckFault>
@@ -309,7 +309,7 @@ fn check_links(
 fn check_link(
     alloc: Global,
     link: &Link,
-    scope: &Scope,
+    scope: &Scope<'_>,
     aggregates: bool,
     before: Checked,
 ) -> Result<Checked, CheckFault>
@@ -326,7 +326,7 @@ fn check_link(
 fn check_exprs(
     alloc: Global,
     exprs: &Exprs,
-    scope: &Scope,
+    scope: &Scope<'_>,
     aggregates: bool,
 ) -> Result<CheckedList, CheckFault>
     ensures { Gives (spec.answers aggregates (map (spec.judge scope.now) exprs.now)) result }
@@ -344,7 +344,7 @@ fn check_exprs(
 fn call(
     alloc: Global,
     parts: &Exprs,
-    scope: &Scope,
+    scope: &Scope<'_>,
     aggregates: bool,
     function: Function,
 ) -> Result<Checked, CheckFault>
@@ -368,7 +368,7 @@ fn call(
 fn id_call(
     alloc: Global,
     parts: &Exprs,
-    scope: &Scope,
+    scope: &Scope<'_>,
     aggregates: bool,
 ) -> Result<Checked, CheckFault>
     ensures { Gives (spec.id_call scope.now aggregates (map (spec.judge scope.now) parts.now))
@@ -389,7 +389,7 @@ fn id_call(
 fn id_of_part(
     alloc: Global,
     part: &Expr,
-    scope: &Scope,
+    scope: &Scope<'_>,
     aggregates: bool,
 ) -> Result<Checked, CheckFault>
     ensures { let name = spec.bare_name (spec.judge scope.now part.now).ref in

@@ -9,7 +9,7 @@ ghost use Rattle.ql_check_expr.specs.Names.{Hits, bytes_of, place_of};
 use crate::CheckFault;
 use crate::checked::of_type;
 use ql_edge::{Bytes, NoMemory};
-use ql_syntax::{Checked, RowPlace, Scope, Slot, Typed};
+use ql_syntax::{Checked, NameRef, RowPlace, Scope, Slot, Typed};
 use ql_value::{AMBIGUOUS, NO_COLUMN, Refusal};
 use std::alloc::Global;
 
@@ -21,7 +21,7 @@ enum Hit {
     Several,
 }
 
-pub fn is_called(own: &Option<Bytes>, name: &[u8]) -> bool
+pub fn is_called(own: &Option<NameRef<'_>>, name: &[u8]) -> bool
     ensures { result ≡ spec.is_called own.now name.now }
 {
     match own {
@@ -31,7 +31,7 @@ pub fn is_called(own: &Option<Bytes>, name: &[u8]) -> bool
 }
 
 /// Whether the slot is of the record set, if one is named.
-fn is_of_set(set: Option<&[u8]>, slot: &Slot) -> bool
+fn is_of_set(set: Option<&[u8]>, slot: &Slot<'_>) -> bool
     ensures { result ≡ spec.is_of_set (bytes_of set.entry) slot.now }
 {
     match set {
@@ -41,7 +41,7 @@ fn is_of_set(set: Option<&[u8]>, slot: &Slot) -> bool
 }
 
 /// Whether the slot is the column, or the id where none is named.
-fn is_of_column(column: Option<&[u8]>, slot: &Slot) -> bool
+fn is_of_column(column: Option<&[u8]>, slot: &Slot<'_>) -> bool
     ensures { result ≡ spec.is_of_column (bytes_of column.entry) slot.now }
 {
     match column {
@@ -61,7 +61,7 @@ fn add_hit(hit: Hit, found: RowPlace) -> Hit
 }
 
 /// One slot more.
-fn look_at(hit: Hit, set: Option<&[u8]>, column: Option<&[u8]>, at: usize, slot: &Slot) -> Hit
+fn look_at(hit: Hit, set: Option<&[u8]>, column: Option<&[u8]>, at: usize, slot: &Slot<'_>) -> Hit
     ensures { let more =
         spec.places_named (bytes_of set.entry) (bytes_of column.entry) at (slot.now ∷ []) in
         (list : List RowPlace) → Hits hit list → Hits result (list ++ more) }
@@ -80,7 +80,7 @@ fn look_at(hit: Hit, set: Option<&[u8]>, column: Option<&[u8]>, at: usize, slot:
 }
 
 /// The places that a name may mean. The first slot has the number `start`.
-fn search(set: Option<&[u8]>, column: Option<&[u8]>, start: usize, slots: &[Slot]) -> Hit
+fn search(set: Option<&[u8]>, column: Option<&[u8]>, start: usize, slots: &[Slot<'_>]) -> Hit
     requires numbers { start + length slots.now < 2 ^ 64 }
     ensures { Hits result
         (spec.places_named (bytes_of set.entry) (bytes_of column.entry) start slots.now) }
@@ -95,7 +95,7 @@ fn search(set: Option<&[u8]>, column: Option<&[u8]>, start: usize, slots: &[Slot
 }
 
 /// The places of the source row that names are looked for among.
-fn seen_slots(scope: &Scope) -> &[Slot]
+fn seen_slots<'a, 'b>(scope: &'b Scope<'a>) -> &'b [Slot<'a>]
     ensures { result.now ≡ spec.seen_slots scope.now }
 {
     if scope.hides {
@@ -118,7 +118,7 @@ fn one_of(alloc: Global, name: &[u8], hit: Hit) -> Result<RowPlace, CheckFault>
 /// The place of a column that is so written.
 fn find_column(
     alloc: Global,
-    scope: &Scope,
+    scope: &Scope<'_>,
     set: Option<&[u8]>,
     column: &[u8],
     name: &[u8],
@@ -153,7 +153,7 @@ pub fn qualified_name(alloc: Global, set: &[u8], column: &[u8]) -> Result<Bytes,
 /// What `c` or `T.c` means.
 fn column_place(
     alloc: Global,
-    scope: &Scope,
+    scope: &Scope<'_>,
     set: Option<&[u8]>,
     column: &[u8],
 ) -> Result<RowPlace, CheckFault>
@@ -179,7 +179,7 @@ fn as_place(found: RowPlace) -> Checked
 #[inline(never)]
 pub(crate) fn column_of(
     alloc: Global,
-    scope: &Scope,
+    scope: &Scope<'_>,
     set: Option<&[u8]>,
     column: &[u8],
 ) -> Result<Checked, CheckFault>
@@ -191,7 +191,7 @@ pub(crate) fn column_of(
 
 /// The id of the only record set.
 #[inline(never)]
-pub(crate) fn id_of_all(alloc: Global, scope: &Scope) -> Result<Checked, CheckFault>
+pub(crate) fn id_of_all(alloc: Global, scope: &Scope<'_>) -> Result<Checked, CheckFault>
     ensures { Gives (at_place (spec.id_place scope.now)) result }
 {
     let hit = search(None, None, 0, seen_slots(scope));
@@ -200,7 +200,7 @@ pub(crate) fn id_of_all(alloc: Global, scope: &Scope) -> Result<Checked, CheckFa
 
 /// The id of the record set with a name.
 #[inline(never)]
-pub(crate) fn id_of_set(alloc: Global, scope: &Scope, set: &[u8]) -> Result<Checked, CheckFault>
+pub(crate) fn id_of_set(alloc: Global, scope: &Scope<'_>, set: &[u8]) -> Result<Checked, CheckFault>
     ensures { Gives (at_place (spec.id_place_of scope.now set.now)) result }
 {
     let hit = search(Some(set), None, 0, seen_slots(scope));

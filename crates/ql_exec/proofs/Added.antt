@@ -10,7 +10,7 @@ use Rattle.ql_rel.specs.declared.fault.RelFault.TheVariants as rel
 use Rattle.ql_syntax.specs.Answers.{Answer, then_with}
 use Rattle.ql_rel.specs.Refusals.{IsRefusedBy, IsCausedRel}
 use Rattle.ql_rel.specs.Refused.{unless}
-use Rattle.ql_rel.specs.StatementEffects.{row_added, rows_added}
+use Rattle.ql_rel.specs.InsertEffects.{row_added, rows_added}
 use Rattle.ql_exec.specs.Answers.{fault_of_rel}
 use Rattle.ql_exec.specs.Carries.{Changed, Changes, IsCausedExec}
 use Rattle.ql_exec.specs.declared.fault.ExecFault.{ExecFault}

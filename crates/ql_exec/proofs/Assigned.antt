@@ -17,14 +17,14 @@ use Rattle.ql_rel.specs.declared.db.Row.{Row}
 use Rattle.ql_rel.specs.declared.fault.RelFault.{RelFault}
 use Rattle.ql_rel.specs.declared.fault.RelFault.TheVariants as rel
 use Rattle.ql_rel.specs.declared.plan.Plan.{Plan}
-use Rattle.ql_rel.specs.ChangeEffects.{is_meant, with_new, row_becomes}
+use Rattle.ql_rel.specs.ChangeEffects.{with_new, row_becomes}
 use Rattle.ql_rel.specs.Changes.{rows_changed, row_of, changed, removed}
 use Rattle.ql_rel.specs.Databases.{schema_of}
 use Rattle.ql_rel.specs.Limits.{last_id}
 use Rattle.ql_rel.specs.PlanTypes.{AreTyped, IsFilter, IsValueFor, AreValuesFor, ChangeTyped}
 use Rattle.ql_rel.specs.Refusals.{change_refusal}
 use Rattle.ql_rel.specs.Refused.{unless}
-use Rattle.ql_rel.specs.Rows.{answer_of, values_of}
+use Rattle.ql_rel.specs.Rows.{answer_of, values_of, is_meant}
 use Rattle.ql_rel.specs.SelectRows.{set_row}
 use Rattle.ql_rel.specs.WellFormed.{Fits}
 use Rattle.ql_rel.proofs.Fits.{then_ok, same_ok}

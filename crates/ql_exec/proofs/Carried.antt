@@ -13,16 +13,16 @@ use Rattle.ql_rel.specs.declared.db.Db.{Db}
 use Rattle.ql_rel.specs.declared.plan.Plan.{Plan}
 use Rattle.ql_rel.specs.declared.schema.Schema.{Schema}
 use Rattle.ql_syntax.specs.Answers.{Answer, refused, then_with}
-use Rattle.ql_rel.specs.CreatePlans.{create_table_plan}
+use Rattle.ql_rel.specs.InsertEffects.{inserts}
 use Rattle.ql_rel.specs.Plans.{select_plan}
 use Rattle.ql_rel.specs.SelectRows.{select_text}
-use Rattle.ql_rel.specs.StatementEffects.{table_added, silent, carried}
+use Rattle.ql_rel.specs.StatementEffects.{creates, silent, carried}
 use Rattle.ql_rel.specs.StatementPlans.{statement_plan}
+use Rattle.ql_rel.specs.TablePlans.{create_plan}
 use Rattle.ql_syntax.specs.ReadsBack.{IsReadBack}
 use Rattle.ql_exec.specs.Carries.{Changes, Does}
 use Rattle.ql_exec.specs.Depths.{IsDeepEnough}
 use Rattle.ql_exec.specs.Scans.{AddsText}
-use Rattle.ql_exec.specs.WholeRows.{are_whole}
 use Rattle.ql_exec.specs.declared.fault.ExecFault.{ExecFault}
 use Rattle.ql_exec.specs.declared.fault.ExecFault.TheVariants as fault
 use Rattle.ql_exec.proofs.Planned.{Inserts, insert_says}
@@ -57,37 +57,26 @@ query_planned schema statement q select p i e h =
     let here : statement_plan schema (s.Query q) ≡ Ok p = subst (λ (z : Statement). statement_plan schema z ≡ Ok p) i h in
     subst (λ (z : Select). select_plan schema z ≡ Ok p) (sym e) here
 
--- a CREATE TABLE without IF NOT EXISTS
-pub loud : (statement : Statement) (quiet : Bool) (name : List ℕ) (columns : List ColumnDef) → quiet ≡ false → statement ≡ s.CreateTable quiet name columns → statement ≡ s.CreateTable false name columns
-loud statement quiet name columns e i = i ∙ ap (λ (b : Bool). s.CreateTable b name columns) e
-
 -- a CREATE TABLE a level, its plan, and that it is read back
-pub create_level : (statement : Statement) (name : List ℕ) (columns : List ColumnDef) (levels : ℕ) → statement ≡ s.CreateTable false name columns → IsDeepEnough statement levels → 0 < levels
-create_level statement name columns levels i h = subst (λ (z : Statement). IsDeepEnough z levels) i h
+pub create_level : (statement : Statement) (quiet : Bool) (name : List ℕ) (columns : List ColumnDef) (levels : ℕ) → statement ≡ s.CreateTable quiet name columns → IsDeepEnough statement levels → 0 < levels
+create_level statement quiet name columns levels i h = subst (λ (z : Statement). IsDeepEnough z levels) i h
 
-pub create_planned : (schema : Schema) (statement : Statement) (name : List ℕ) (columns : List ColumnDef) (p : Plan) → statement ≡ s.CreateTable false name columns → statement_plan schema statement ≡ Ok p → IsOk (create_table_plan schema name columns)
-create_planned schema statement name columns p i h = ok_is (create_table_plan schema name columns) p (subst (λ (z : Statement). statement_plan schema z ≡ Ok p) i h)
+pub create_planned : (schema : Schema) (statement : Statement) (quiet : Bool) (name : List ℕ) (columns : List ColumnDef) (p : Plan) → statement ≡ s.CreateTable quiet name columns → statement_plan schema statement ≡ Ok p → IsOk (create_plan schema quiet name columns)
+create_planned schema statement quiet name columns p i h = ok_is (create_plan schema quiet name columns) p (subst (λ (z : Statement). statement_plan schema z ≡ Ok p) i h)
 
-pub create_read : (statement : Statement) (name : List ℕ) (columns : List ColumnDef) → statement ≡ s.CreateTable false name columns → IsReadBack statement → IsReadBack (s.CreateTable false name columns)
-create_read statement name columns i r = subst IsReadBack i r
+pub create_read : (statement : Statement) (quiet : Bool) (name : List ℕ) (columns : List ColumnDef) → statement ≡ s.CreateTable quiet name columns → IsReadBack statement → IsReadBack (s.CreateTable quiet name columns)
+create_read statement quiet name columns i r = subst IsReadBack i r
 
 -- an INSERT a level, and what its plan says
 pub insert_level : (statement : Statement) (name : List ℕ) (names : List (List ℕ)) (rows_of : RowSource) (levels : ℕ) → statement ≡ s.Insert name names rows_of → IsDeepEnough statement levels → 0 < levels
 insert_level statement name names rows_of levels i h = subst (λ (z : Statement). IsDeepEnough z levels) i h
 
--- an INSERT of rows for all columns
-pub whole_insert : (statement : Statement) (name : List ℕ) (names : List (List ℕ)) (rows_of : RowSource) → statement ≡ s.Insert name names rows_of → are_whole names rows_of ≡ true
-    → (rows : List (List Expr)) × (statement ≡ s.Insert name [] (source.Rows rows))
-whole_insert statement name [] (source.Rows rows) i h = (rows, i)
-whole_insert statement name [] (source.Query q) i h = absurd (cc)
-whole_insert statement name (n ∷ names) (source.Rows rows) i h = absurd (cc)
-whole_insert statement name (n ∷ names) (source.Query q) i h = absurd (cc)
-
-pub insert_planned : (schema : Schema) (statement : Statement) (name : List ℕ) (names : List (List ℕ)) (rows_of boxed : RowSource) (p : Plan) → statement ≡ s.Insert name names rows_of → boxed ≡ rows_of → are_whole names boxed ≡ true
+-- an INSERT of rows, by the source that is boxed in it
+pub insert_planned : (schema : Schema) (statement : Statement) (name : List ℕ) (names : List (List ℕ)) (rows_of boxed : RowSource) (exprs : List (List Expr)) (p : Plan) → statement ≡ s.Insert name names rows_of → boxed ≡ rows_of → boxed ≡ source.Rows exprs
     → statement_plan schema statement ≡ Ok p → Inserts schema name p
-insert_planned schema statement name names rows_of boxed p i b w h =
-    let whole = whole_insert statement name names rows_of i (subst (λ (z : RowSource). are_whole names z ≡ true) b w) in
-    insert_says schema name whole.0 p (subst (λ (z : Statement). statement_plan schema z ≡ Ok p) whole.1 h)
+insert_planned schema statement name names rows_of boxed exprs p i b w h =
+    let is : statement ≡ s.Insert name names (source.Rows exprs) = i ∙ ap (λ (r : RowSource). s.Insert name names r) (sym b ∙ w) in
+    insert_says schema name names exprs p (subst (λ (z : Statement). statement_plan schema z ≡ Ok p) is h)
 
 -- what each part does is what the statement does
 pub query_does : {T : Type 0} (with_names : Bool) (statement : Statement) (q select : Select) (p : Plan) (r : Result T ExecFault) (o now : Option Db) (before new : List ℕ) → statement ≡ s.Query q → select ≡ q → now ≡ o
@@ -96,26 +85,34 @@ query_does with_names statement q select p r o now before new i e n h =
     subst (λ (z : Statement). IfSome o (λ d. Does (carried with_names z p d) r before new now)) (sym (i ∙ ap s.Query (sym e)))
     (texts_do (λ d. select_text with_names d select p) r o now before new n h)
 
-pub create_does : {T : Type 0} (with_names : Bool) (statement : Statement) (name : List ℕ) (columns : List ColumnDef) (p : Plan) (r : Result T ExecFault) (o now : Option Db) (out : List ℕ) → statement ≡ s.CreateTable false name columns
-    → IfSome o (λ d. Changes (table_added (record { name = name; columns = columns }) d) r now) → IfSome o (λ d. Does (carried with_names statement p d) r out out now)
-create_does with_names statement name columns p r o now out i h =
+pub create_does : {T : Type 0} (with_names : Bool) (statement : Statement) (quiet : Bool) (name : List ℕ) (columns : List ColumnDef) (p : Plan) (r : Result T ExecFault) (o now : Option Db) (out : List ℕ) → statement ≡ s.CreateTable quiet name columns
+    → IfSome o (λ d. Changes (creates quiet (record { name = name; columns = columns }) d) r now) → IfSome o (λ d. Does (carried with_names statement p d) r out out now)
+create_does with_names statement quiet name columns p r o now out i h =
     subst (λ (z : Statement). IfSome o (λ d. Does (carried with_names z p d) r out out now)) (sym i)
-    (changes_do (λ d. table_added (record { name = name; columns = columns }) d) r o now out h)
+    (changes_do (λ d. creates quiet (record { name = name; columns = columns }) d) r o now out h)
 
--- CREATE TABLE with IF NOT EXISTS is not built yet
-pub quiet_does : (T : Type 0) (with_names : Bool) (statement : Statement) (quiet : Bool) (name : List ℕ) (columns : List ColumnDef) (p : Plan) (f : ExecFault) (o now : Option Db) (before new : List ℕ) → f ≡ fault.Refused (record { number = 10; name = [] }) → quiet ≡ true
-    → statement ≡ s.CreateTable quiet name columns → IfSome o (λ d. Does {T = T} (carried with_names statement p d) (Err f) before new now)
-quiet_does T with_names statement quiet name columns p f None now before new i e is = tt
-quiet_does T with_names statement quiet name columns p f (Some d) now before new i e is =
-    let known : statement ≡ s.CreateTable true name columns = is ∙ ap (λ (b : Bool). s.CreateTable b name columns) e in
-    let refuses : carried with_names statement p d ≡ refused 10 = subst (λ (z : Statement). carried with_names z p d ≡ refused 10) (sym known) refl in
-    subst (λ (z : ExecFault). Does {T = T} (carried with_names statement p d) (Err z) before new now) (sym i) refuses
+pub insert_does : {T : Type 0} (with_names : Bool) (statement : Statement) (name : List ℕ) (names : List (List ℕ)) (rows_of boxed : RowSource) (exprs : List (List Expr)) (p : Plan) (r : Result T ExecFault) (o now : Option Db) (out : List ℕ) → statement ≡ s.Insert name names rows_of
+    → boxed ≡ rows_of → boxed ≡ source.Rows exprs → IfSome o (λ d. Changes (inserts name p.targets p.rows d) r now) → IfSome o (λ d. Does (carried with_names statement p d) r out out now)
+insert_does with_names statement name names rows_of boxed exprs p r o now out i b w h =
+    let is : statement ≡ s.Insert name names (source.Rows exprs) = i ∙ ap (λ (r : RowSource). s.Insert name names r) (sym b ∙ w) in
+    subst (λ (z : Statement). IfSome o (λ d. Does (carried with_names z p d) r out out now)) (sym is) (changes_do (inserts name p.targets p.rows) r o now out h)
+
+-- an INSERT of a SELECT is not built yet
+pub selected_later : (T : Type 0) (with_names : Bool) (statement : Statement) (name : List ℕ) (names : List (List ℕ)) (rows_of boxed : RowSource) (q : Select) (p : Plan) (f : ExecFault) (o now : Option Db) (before new : List ℕ) → f ≡ fault.Refused (record { number = 10; name = [] }) → statement ≡ s.Insert name names rows_of
+    → boxed ≡ rows_of → boxed ≡ source.Query q → IfSome o (λ d. Does {T = T} (carried with_names statement p d) (Err f) before new now)
+selected_later T with_names statement name names rows_of boxed q p f None now before new e i b w = tt
+selected_later T with_names statement name names rows_of boxed q p f (Some d) now before new e i b w =
+    let is : statement ≡ s.Insert name names (source.Query q) = i ∙ ap (λ (r : RowSource). s.Insert name names r) (sym b ∙ w) in
+    let refuses : carried with_names statement p d ≡ refused 10 = subst (λ (z : Statement). carried with_names z p d ≡ refused 10) (sym is) refl in
+    subst (λ (z : ExecFault). Does {T = T} (carried with_names statement p d) (Err z) before new now) (sym e) refuses
 
 -- every other statement with a plan is not built yet
 abbrev IsOther : Statement → Type 0
 IsOther (s.Query q) = ⊥
 IsOther (s.CreateTable quiet name columns) = ⊥
 IsOther (s.DropTable quiet name) = ⊥
+IsOther (s.AddColumn name column) = ⊥
+IsOther (s.DropColumn name column) = ⊥
 IsOther (s.Insert name names rows_of) = ⊥
 IsOther (s.Update name sets filter) = ⊥
 IsOther (s.Delete name filter) = ⊥
@@ -126,6 +123,8 @@ later : (with_names : Bool) (statement : Statement) (p : Plan) (d : Db) → IsOt
 later with_names (s.Query q) p d h = absurd h
 later with_names (s.CreateTable quiet name columns) p d h = absurd h
 later with_names (s.DropTable quiet name) p d h = absurd h
+later with_names (s.AddColumn name column) p d h = absurd h
+later with_names (s.DropColumn name column) p d h = absurd h
 later with_names (s.Insert name names rows_of) p d h = absurd h
 later with_names (s.Update name sets filter) p d h = absurd h
 later with_names (s.Delete name filter) p d h = absurd h
@@ -133,16 +132,19 @@ later with_names (s.Truncate name) p d h = absurd h
 later with_names _ p d h = refl
 
 pub is_other : (statement : Statement) → ((q : Select) → statement ≡ s.Query q → ⊥) → ((quiet : Bool) (name : List ℕ) (columns : List ColumnDef) → statement ≡ s.CreateTable quiet name columns → ⊥)
-    → ((quiet : Bool) (name : List ℕ) → statement ≡ s.DropTable quiet name → ⊥) → ((name : List ℕ) (names : List (List ℕ)) (rows_of : RowSource) → statement ≡ s.Insert name names rows_of → ⊥)
+    → ((quiet : Bool) (name : List ℕ) → statement ≡ s.DropTable quiet name → ⊥)
+    → ((name : List ℕ) (column : ColumnDef) → statement ≡ s.AddColumn name column → ⊥) → ((name column : List ℕ) → statement ≡ s.DropColumn name column → ⊥) → ((name : List ℕ) (names : List (List ℕ)) (rows_of : RowSource) → statement ≡ s.Insert name names rows_of → ⊥)
     → ((name : List ℕ) (sets : List Assign) (filter : Option Expr) → statement ≡ s.Update name sets filter → ⊥) → ((name : List ℕ) (filter : Option Expr) → statement ≡ s.Delete name filter → ⊥) → ((name : List ℕ) → statement ≡ s.Truncate name → ⊥) → IsOther statement
-is_other (s.Query q) no_query no_create no_drop no_insert no_update no_delete no_truncate = absurd (no_query q refl)
-is_other (s.CreateTable quiet name columns) no_query no_create no_drop no_insert no_update no_delete no_truncate = absurd (no_create quiet name columns refl)
-is_other (s.DropTable quiet name) no_query no_create no_drop no_insert no_update no_delete no_truncate = absurd (no_drop quiet name refl)
-is_other (s.Insert name names rows_of) no_query no_create no_drop no_insert no_update no_delete no_truncate = absurd (no_insert name names rows_of refl)
-is_other (s.Update name sets filter) no_query no_create no_drop no_insert no_update no_delete no_truncate = absurd (no_update name sets filter refl)
-is_other (s.Delete name filter) no_query no_create no_drop no_insert no_update no_delete no_truncate = absurd (no_delete name filter refl)
-is_other (s.Truncate name) no_query no_create no_drop no_insert no_update no_delete no_truncate = absurd (no_truncate name refl)
-is_other _ no_query no_create no_drop no_insert no_update no_delete no_truncate = tt
+is_other (s.Query q) no_query no_create no_drop no_add no_less no_insert no_update no_delete no_truncate = absurd (no_query q refl)
+is_other (s.CreateTable quiet name columns) no_query no_create no_drop no_add no_less no_insert no_update no_delete no_truncate = absurd (no_create quiet name columns refl)
+is_other (s.DropTable quiet name) no_query no_create no_drop no_add no_less no_insert no_update no_delete no_truncate = absurd (no_drop quiet name refl)
+is_other (s.AddColumn name column) no_query no_create no_drop no_add no_less no_insert no_update no_delete no_truncate = absurd (no_add name column refl)
+is_other (s.DropColumn name column) no_query no_create no_drop no_add no_less no_insert no_update no_delete no_truncate = absurd (no_less name column refl)
+is_other (s.Insert name names rows_of) no_query no_create no_drop no_add no_less no_insert no_update no_delete no_truncate = absurd (no_insert name names rows_of refl)
+is_other (s.Update name sets filter) no_query no_create no_drop no_add no_less no_insert no_update no_delete no_truncate = absurd (no_update name sets filter refl)
+is_other (s.Delete name filter) no_query no_create no_drop no_add no_less no_insert no_update no_delete no_truncate = absurd (no_delete name filter refl)
+is_other (s.Truncate name) no_query no_create no_drop no_add no_less no_insert no_update no_delete no_truncate = absurd (no_truncate name refl)
+is_other _ no_query no_create no_drop no_add no_less no_insert no_update no_delete no_truncate = tt
 
 pub others_do : (T : Type 0) (with_names : Bool) (statement : Statement) (p : Plan) (f : ExecFault) (o now : Option Db) (before new : List ℕ) → f ≡ fault.Refused (record { number = 10; name = [] }) → IsOther statement
     → IfSome o (λ d. Does {T = T} (carried with_names statement p d) (Err f) before new now)

@@ -38,6 +38,13 @@ place_last name (t ∷ tables) =
 pub last_is : (name : List ℕ) (place : ℕ) (tables : List TableSchema) (schema : Schema) → place ≡ place_named name tables → tables ≡ schema.tables → (place == length tables) ≡ not (has_name name (table_names schema.tables))
 last_is name place tables schema p e = rw (p, e) (place_last name schema.tables)
 
+not_not : (b : Bool) → not (not b) ≡ b
+not_not true = refl
+not_not false = refl
+
+pub there_is : (name : List ℕ) (place : ℕ) (tables : List TableSchema) (schema : Schema) → place ≡ place_named name tables → tables ≡ schema.tables → not (place == length tables) ≡ has_name name (table_names schema.tables)
+there_is name place tables schema p e = ap not (last_is name place tables schema p e) ∙ not_not (has_name name (table_names schema.tables))
+
 -- nothing to drop
 pub idle_done : (quiet : Bool) (name : List ℕ) (schema : Schema) (o : Option Db) → is_idle schema (s.DropTable quiet name) ≡ true → IfSome o (λ d. schema ≡ schema_of d) → IfSome o (λ d. Changes {T = Unit {0}} (Ok (drops quiet name d)) (Ok tt) o)
 idle_done quiet name schema None h k = tt

@@ -14,7 +14,7 @@ use Rattle.ql_rel.specs.declared.fault.RelFault.TheVariants as rel
 use Rattle.ql_rel.specs.declared.plan.Plan.{Plan}
 use Rattle.ql_rel.specs.declared.schema.Index.{Index}
 use Rattle.ql_rel.specs.declared.schema.Schema.{Schema}
-use Rattle.ql_rel.specs.ChangeEffects.{is_meant, with_new, becomes, row_becomes, rows_become, table_changed}
+use Rattle.ql_rel.specs.ChangeEffects.{with_new, becomes, row_becomes, rows_become, table_changed}
 use Rattle.ql_rel.specs.Changes.{changed_at, with_rows, rows_changed, row_of, no_rows, truncated, is_of_other, table_dropped}
 use Rattle.ql_rel.specs.CreatePlans.{takes_all}
 use Rattle.ql_rel.specs.Databases.{table_schema, schema_of, name_if, name_at, columns_if, columns_at, rows_at}
@@ -25,7 +25,7 @@ use Rattle.ql_rel.specs.Limits.{key_of, last_id, row_too_long, first_long_key}
 use Rattle.ql_rel.specs.PlanTypes.{ChangeTyped}
 use Rattle.ql_rel.specs.Refusals.{refused_if, or_next, key_refusal, change_refusal}
 use Rattle.ql_rel.specs.Refused.{unless}
-use Rattle.ql_rel.specs.Rows.{values_of}
+use Rattle.ql_rel.specs.Rows.{values_of, is_meant}
 use Rattle.ql_rel.specs.SelectRows.{set_row}
 use Rattle.ql_rel.specs.WellFormed.{Fits, AllFit, Rise, AllBelow}
 use Rattle.ql_rel.proofs.ChangeLemmas.{rise_down}

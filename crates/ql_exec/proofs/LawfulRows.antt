@@ -21,7 +21,7 @@ use Rattle.ql_rel.specs.Lawful.{is_broken, AllMayStand, IsTrueOf, MeetsColumns, 
 use Rattle.ql_rel.specs.Limits.{row_too_long, first_long_key}
 use Rattle.ql_rel.specs.Refusals.{refused_if, or_next, key_refusal, are_ids_spent, insert_refusal}
 use Rattle.ql_rel.specs.Refused.{unless}
-use Rattle.ql_rel.specs.StatementEffects.{row_added, rows_added}
+use Rattle.ql_rel.specs.InsertEffects.{row_added, rows_added}
 use Rattle.ql_rel.specs.FormLaws.{FormLaws}
 use Rattle.ql_rel.specs.WellFormed.{Fits}
 use Rattle.ql_rel.proofs.Fits.{then_ok, same_ok}

@@ -10,13 +10,13 @@ use Rattle.ql_rel.specs.declared.fault.RelFault.TheVariants as rel
 use Rattle.ql_rel.specs.declared.plan.Plan.{Plan}
 use Rattle.ql_rel.specs.declared.schema.Schema.{Schema}
 use Rattle.ql_syntax.specs.Answers.{Answer, then_with, all_of}
-use Rattle.ql_rel.specs.ChangeEffects.{is_meant, with_new, becomes, row_becomes, rows_become, table_changed}
+use Rattle.ql_rel.specs.ChangeEffects.{with_new, becomes, row_becomes, rows_become, table_changed}
 use Rattle.ql_rel.specs.Changes.{rows_changed, row_of}
 use Rattle.ql_rel.specs.Databases.{schema_of, rows_at}
 use Rattle.ql_rel.specs.Refusals.{change_refusal}
 use Rattle.ql_rel.specs.Refused.{unless}
 use Rattle.ql_rel.specs.Rels.{is_after, row_after}
-use Rattle.ql_rel.specs.Rows.{values_of}
+use Rattle.ql_rel.specs.Rows.{values_of, is_meant}
 use Rattle.ql_rel.specs.SelectRows.{set_row}
 use Rattle.ql_rel.specs.WellFormed.{Rise}
 use Rattle.ql_rel.proofs.Fits.{then_ok, same_ok}

@@ -1,48 +1,40 @@
 -- What the plans of INSERT and SELECT say of the tables that they name.
-use Rattle.std.proofs.Common.{◌≡◌, ℕ, suc, ◌<◌, ◌≤◌, ◌^◌, Bool, true, false, not, ◌&&◌, is_none, if◌then◌else◌, List, [], ◌∷◌, length, map, slice_get, Option, Some, None, Ok, Err, refl, sym, ap, subst, arith}
-use Rattle.std.specs.Prelude.{IsTrue, ◌==◌}
+use Rattle.std.proofs.Common.{◌≡◌, ℕ, suc, ◌<◌, ◌≤◌, ◌^◌, Bool, true, false, if◌then◌else◌, List, [], ◌∷◌, length, map, slice_get, Option, Some, None, Ok, Err, refl, sym, ap, subst, ◌∙◌, arith}
+use Rattle.std.specs.Prelude.{IsOk}
 use Rattle.std.specs.List.{list_all}
 use Rattle.std.specs.Str.{bytes_eq}
 use Rattle.ql_value.specs.declared.refusal.Refusal.{Refusal}
 use Rattle.ql_value.specs.declared.value.Kind.TheVariants as k
 use Rattle.ql_syntax.specs.declared.statement.ColumnDef.{ColumnDef}
 use Rattle.ql_syntax.specs.declared.statement.RowSource.TheVariants as source
+use Rattle.ql_syntax.specs.declared.statement.Statement.TheVariants as s
 use Rattle.ql_syntax.specs.declared.syntax.Expr.{Expr}
 use Rattle.ql_syntax.specs.declared.syntax.Expr.TheOpen.{SetSource-F}
 use Rattle.ql_syntax.specs.declared.syntax.Field.{Field}
 use Rattle.ql_syntax.specs.declared.syntax.FromSet.{FromSet, out-FromSet}
 use Rattle.ql_syntax.specs.declared.syntax.Join.{Join}
 use Rattle.ql_syntax.specs.declared.syntax.Link.{Link}
-use Rattle.ql_syntax.specs.declared.syntax.Select.{Select, out-Select}
+use Rattle.ql_syntax.specs.declared.syntax.Select.{Select}
 use Rattle.ql_syntax.specs.declared.syntax.SetSource.{SetSource, out-SetSource}
-use Rattle.ql_syntax.specs.declared.typed.Typed.{Typed}
 use Rattle.ql_syntax.specs.declared.typing.Typing.{Typing}
 use Rattle.ql_syntax.specs.declared.typing.Typing.TheVariants.{OfKind}
-use Rattle.ql_syntax.specs.Typing.{type_of}
 use Rattle.ql_rel.specs.declared.plan.Plan.{Plan}
 use Rattle.ql_rel.specs.declared.schema.Schema.{Schema}
 use Rattle.ql_rel.specs.declared.schema.TableSchema.{TableSchema}
 use Rattle.ql_syntax.specs.declared.scope.Slot.{Slot}
-use Rattle.ql_syntax.specs.Answers.{Answer, then_with, all_of}
+use Rattle.ql_syntax.specs.Answers.{Answer, then_with}
 use Rattle.ql_rel.specs.CreatePlans.{takes_all}
 use Rattle.ql_rel.specs.Databases.{columns_if, columns_at}
-use Rattle.ql_rel.specs.InsertPlans.{takes_rows, without_checks, value_row, rows_plan, source_plan, insert_plan}
-use Rattle.ql_rel.specs.InsertTypes.{RowsTyped}
+use Rattle.ql_rel.specs.InsertPlans.{takes_rows, without_checks, source_plan, insert_plan}
 use Rattle.ql_rel.specs.Limits.{IsWithin}
 use Rattle.ql_rel.specs.NewNames.{table_there, known_table, place_named}
-use Rattle.ql_rel.specs.PlanTypes.{slot_types, types_if, AreTyped, SelectTyped}
-use Rattle.ql_rel.specs.Plans.{table_named, is_metadata, set_name, column_slots, add_table, add_named, add_source, add_set, add_sets, select_plan}
-use Rattle.ql_rel.specs.SelectRows.{is_row_by_row}
-use Rattle.ql_rel.specs.Targets.{all_targets, targets_of}
+use Rattle.ql_rel.specs.PlanTypes.{slot_types, types_if, columns_named, ValuesTyped}
+use Rattle.ql_rel.specs.Plans.{table_named, is_metadata, set_name, column_slots, add_table, add_source, add_set, add_sets}
+use Rattle.ql_rel.specs.Targets.{targets_of}
+use Rattle.ql_rel.proofs.ChangeFits.{known_columns, statement_typed}
 use Rattle.ql_rel.proofs.Fits.{then_ok, same_ok}
-use Rattle.ql_rel.proofs.InsertFits.{whole_rows}
-use Rattle.ql_rel.proofs.MadeLemmas.{two_parts}
-use Rattle.ql_rel.proofs.SelectFits.{select_typed}
-use Rattle.ql_exec.specs.Answers.{AreTypedAt}
 use Rattle.ql_exec.specs.Scans.{table_types}
-use Rattle.ql_exec.specs.Selects.{AreTypedOver}
 use Rattle.ql_exec.proofs.LawfulRows.{TakesRows, takes_these}
-use Rattle.ql_exec.proofs.Lined.{typed_each}
 
 -- the table with a name stands at its place
 stands_if : (b : Bool) (place : ℕ) (u t : TableSchema) (tables : List TableSchema) (next : Option TableSchema) → (if b then Some u else next) ≡ Some t
@@ -69,115 +61,65 @@ known_if false r name o t e = there_is name o t e
 pub known_is : (name : List ℕ) (schema : Schema) (t : TableSchema) → known_table name schema ≡ Ok t → table_named name schema.tables ≡ Some t
 known_is name schema t e = known_if (is_metadata name) (record { number = 9; name = name }) name (table_named name schema.tables) t e
 
--- what the plan of an INSERT of rows for all columns says: its table is there, and its rows have the columns' kinds
+-- what the plan of an INSERT of rows says: its table is there, and its rows have values for the columns
 pub record Inserts (schema : Schema) (name : List ℕ) (p : Plan) : Type 0 where
   pub there : place_named name schema.tables < length schema.tables
-  pub typed : RowsTyped (columns_at (place_named name schema.tables) schema) p.rows
+  pub typed : ValuesTyped (columns_at (place_named name schema.tables) schema) p
   pub takes : TakesRows (place_named name schema.tables) schema
 
 pub checked_if : (b : Bool) (r : Refusal) (u : Unit {0}) → ◌≡◌ {A = Answer (Unit {0})} (if b then Ok tt else Err r) (Ok u) → b ≡ true
 checked_if true r u e = refl
 checked_if false r u e = absurd (cc)
 
-pub insert_says : (schema : Schema) (name : List ℕ) (exprs : List (List Expr)) (p : Plan) → insert_plan schema name [] (source.Rows exprs) ≡ Ok p → Inserts schema name p
-insert_says schema name exprs p e =
-    let a = then_ok (known_table name schema) (λ table. then_with (targets_of table.columns []) (λ targets. then_with (without_checks schema table.columns) (λ _. source_plan schema targets (source.Rows exprs)))) p e in
-    let targets = all_targets 0 a.0.columns in
-    let c = then_ok (without_checks schema a.0.columns) (λ _. source_plan schema targets (source.Rows exprs)) p a.2 in
-    let d = then_ok (all_of (map (value_row targets) exprs)) (λ rows. Ok (rows_plan targets rows)) p c.2 in
+pub insert_says : (schema : Schema) (name : List ℕ) (names : List (List ℕ)) (exprs : List (List Expr)) (p : Plan) → insert_plan schema name names (source.Rows exprs) ≡ Ok p → Inserts schema name p
+insert_says schema name names exprs p e =
+    let a = then_ok (known_table name schema) (λ table. then_with (targets_of table.columns names) (λ targets. then_with (without_checks schema table.columns) (λ _. source_plan schema targets (source.Rows exprs)))) p e in
+    let b = then_ok (targets_of a.0.columns names) (λ targets. then_with (without_checks schema a.0.columns) (λ _. source_plan schema targets (source.Rows exprs))) p a.2 in
+    let c = then_ok (without_checks schema a.0.columns) (λ _. source_plan schema b.0 (source.Rows exprs)) p b.2 in
     let known = known_is name schema a.0 a.1 in
-    let plain : RowsTyped a.0.columns d.0 = whole_rows a.0.columns exprs d.0 d.1 in
-    let here : RowsTyped a.0.columns p.rows = subst (λ (q : Plan). RowsTyped a.0.columns q.rows) (same_ok (rows_plan targets d.0) p d.2) plain in
     let there = (stands_at name schema.tables a.0 known).0 in
     let columns = columns_there name schema a.0 known in
+    let typed : ValuesTyped (columns_named name schema) p = statement_typed schema (s.Insert name names (source.Rows exprs)) p e in
     let test = takes_these schema a.0.columns (checked_if (takes_rows schema a.0.columns) (record { number = 10; name = [] }) c.0 c.1) in
     record {
       there = there;
-      typed = subst (λ (cs : List ColumnDef). RowsTyped cs p.rows) (sym columns) here;
+      typed = subst (λ (cs : List ColumnDef). ValuesTyped cs p) (known_columns name schema a.0 a.1 ∙ sym columns) typed;
       takes = record { there = there; takes = subst (λ (cs : List ColumnDef). list_all takes_all cs ≡ true) (sym columns) test.1; loose = test.0 };
     }
 
-not_true : (b : Bool) → not b ≡ true → b ≡ false
-not_true true e = absurd (cc)
-not_true false e = refl
+only_one : (a : Answer (List Slot)) → then_with a (λ more. Ok more) ≡ a
+only_one (Ok slots) = refl
+only_one (Err r) = refl
 
--- where every row gives one line there is no grouping
-not_grouped : (distinct : Bool) (p : Plan) → is_row_by_row distinct p ≡ true → p.grouped ≡ false
-not_grouped distinct p e =
-    let bare = not p.grouped && (length p.keys == 0 && (is_none p.limit && is_none p.offset)) in
-    let a = two_parts (not distinct) (is_none p.filter && bare) e in
-    let b = two_parts (is_none p.filter) bare a.1 in
-    let c = two_parts (not p.grouped) (length p.keys == 0 && (is_none p.limit && is_none p.offset)) b.1 in
-    not_true p.grouped c.0
+-- the record sets of a FROM of one
+pub one_set : (schema : Schema) (sets : List FromSet) (set : FromSet) → sets ≡ set ∷ [] → add_sets schema [] sets ≡ add_set schema [] set
+one_set schema sets set e = ap (add_sets schema []) e ∙ only_one (add_set schema [] set)
 
--- the record sets of a SELECT with a plan are there, and its fields have types at their rows
-plan_stops : (schema : Schema) (select : Select) (r : Refusal) → add_sets schema [] (out-Select select).sets ≡ Err r → select_plan schema select ≡ Err r
-plan_stops schema select r e = rw e refl
-
-sets_if : (schema : Schema) (select : Select) (p : Plan) (a : Answer (List Slot)) → add_sets schema [] (out-Select select).sets ≡ a → select_plan schema select ≡ Ok p → (slots : List Slot) × (add_sets schema [] (out-Select select).sets ≡ Ok slots)
-sets_if schema select p (Ok slots) e h = (slots, e)
-sets_if schema select p (Err r) e h = absurd (let no = plan_stops schema select r e in cc)
-
-sets_there : (schema : Schema) (select : Select) (p : Plan) → select_plan schema select ≡ Ok p → (slots : List Slot) × (add_sets schema [] (out-Select select).sets ≡ Ok slots)
-sets_there schema select p e = sets_if schema select p (add_sets schema [] (out-Select select).sets) refl e
-
-fields_typed : (schema : Schema) (select : Select) (p : Plan) → select_plan schema select ≡ Ok p → IsTrue (is_row_by_row (out-Select select).distinct p) → AreTyped (type_of (types_if (add_sets schema [] (out-Select select).sets))) p.fields
-fields_typed schema select p e h =
-    let all : SelectTyped (types_if (add_sets schema [] (out-Select select).sets)) p = select_typed schema select p e in
-    all.fields (not_grouped (out-Select select).distinct p h)
-
--- without a record set the fields see nothing
-pub no_set : (schema : Schema) (select : Select) (p : Plan) → (out-Select select).sets ≡ [] → select_plan schema select ≡ Ok p → IsTrue (is_row_by_row (out-Select select).distinct p) → AreTypedAt [] p.fields
-no_set schema select p n e h =
-    let typed : AreTyped (type_of []) p.fields = subst (λ (sets : List FromSet). AreTyped (type_of (types_if (add_sets schema [] sets))) p.fields) n (fields_typed schema select p e h) in
-    typed_each [] [] p.fields tt typed
-
-over_one : (a : Answer (List Slot)) (x : List Slot) (fields : List Typed) → then_with a (λ more. Ok more) ≡ Ok x → AreTyped (type_of (types_if (then_with a (λ more. Ok more)))) fields → AreTypedOver a fields
-over_one (Ok slots) x fields e h = h
-over_one (Err r) x fields e h = absurd (cc)
-
-pub one_set : (schema : Schema) (select : Select) (set : FromSet) (p : Plan) → (out-Select select).sets ≡ set ∷ [] → select_plan schema select ≡ Ok p → IsTrue (is_row_by_row (out-Select select).distinct p) → AreTypedOver (add_set schema [] set) p.fields
-one_set schema select set p n e h =
-    let there = sets_there schema select p e in
-    let typed = subst (λ (sets : List FromSet). AreTyped (type_of (types_if (add_sets schema [] sets))) p.fields) n (fields_typed schema select p e h) in
-    let is = subst (λ (sets : List FromSet). add_sets schema [] sets ≡ Ok there.0) n there.1 in
-    over_one (add_set schema [] set) there.0 p.fields is typed
-
--- a table that fields are typed over: it is there, and they have types at its rows
-pub record Seen (schema : Schema) (name : List ℕ) (fields : List Typed) : Type 0 where
+-- a table that stands in a FROM: it is there, and its rows have these types
+pub record Stood (schema : Schema) (name : List ℕ) (slots : Answer (List Slot)) : Type 0 where
   pub there : place_named name schema.tables < length schema.tables
-  pub typed : AreTyped (type_of (table_types (columns_at (place_named name schema.tables) schema))) fields
+  pub typed : table_types (columns_at (place_named name schema.tables) schema) ≡ types_if slots
 
 pub types_of : (set : List ℕ) (columns : List ColumnDef) → slot_types (column_slots set columns) ≡ map (λ (c : ColumnDef). OfKind c.kind) columns
 types_of set [] = refl
 types_of set (c ∷ columns) = ap (λ (ts : List Typing). OfKind c.kind ∷ ts) (types_of set columns)
 
-seen_in : (schema : Schema) (set name : List ℕ) (o : Option TableSchema) (fields : List Typed) → table_named name schema.tables ≡ o → AreTypedOver (add_table [] set name o) fields → Seen schema name fields
-seen_in schema set name None fields e h = absurd h
-seen_in schema set name (Some t) fields e h =
-    let columns = columns_there name schema t e in
-    let typed : AreTyped (type_of (table_types t.columns)) fields = subst (λ (ts : List Typing). AreTyped (type_of (OfKind k.Int64 ∷ ts)) fields) (types_of set t.columns) h in
-    record {
-      there = (stands_at name schema.tables t e).0;
-      typed = subst (λ (cs : List ColumnDef). AreTyped (type_of (table_types cs)) fields) (sym columns) typed;
-    }
+stood_in : (schema : Schema) (set name : List ℕ) (o : Option TableSchema) → table_named name schema.tables ≡ o → IsOk (add_table [] set name o) → Stood schema name (add_table [] set name o)
+stood_in schema set name None e h = absurd (cc)
+stood_in schema set name (Some t) e h = record {
+  there = (stands_at name schema.tables t e).0;
+  typed = ap table_types (columns_there name schema t e) ∙ ap (λ (ts : List Typing). OfKind k.Int64 ∷ ts) (sym (types_of set t.columns));
+}
 
-seen_if : (b : Bool) (r : Refusal) (schema : Schema) (set name : List ℕ) (fields : List Typed) → AreTypedOver (if b then Err r else add_table [] set name (table_named name schema.tables)) fields → Seen schema name fields
-seen_if true r schema set name fields h = absurd h
-seen_if false r schema set name fields h = seen_in schema set name (table_named name schema.tables) fields refl h
+stood_if : (b : Bool) (r : Refusal) (schema : Schema) (set name : List ℕ) → IsOk (if b then Err r else add_table [] set name (table_named name schema.tables)) → Stood schema name (if b then Err r else add_table [] set name (table_named name schema.tables))
+stood_if true r schema set name h = absurd (cc)
+stood_if false r schema set name h = stood_in schema set name (table_named name schema.tables) refl h
 
-pub seen : (schema : Schema) (alias : Option (List ℕ)) (name : List ℕ) (fields : List Typed) → AreTypedOver (add_named schema [] alias name) fields → Seen schema name fields
-seen schema alias name fields h = seen_if (is_metadata name) (record { number = 10; name = [] }) schema (set_name alias name) name fields h
-
--- the same of a record set that is a table
-pub seen_set : (schema : Schema) (set : FromSet) (name : List ℕ) (fields : List Typed) → out-SetSource (out-FromSet set).source ≡ SetSource-F.Table name → AreTypedOver (add_set schema [] set) fields → Seen schema name fields
-seen_set schema set name fields e h =
-    seen schema (out-FromSet set).alias name fields (subst (λ (x : SetSource-F Expr SetSource Field FromSet Join Link Select). AreTypedOver (add_source schema [] (out-FromSet set).alias x) fields) e h)
-
--- the same at the place that was found
-pub seen_at : (table : ℕ) (schema : Schema) (name : List ℕ) (fields : List Typed) → table ≡ place_named name schema.tables → Seen schema name fields
-    → (table < length schema.tables) × AreTyped (type_of (table_types (columns_at table schema))) fields
-seen_at table schema name fields e h = subst (λ (p : ℕ). (p < length schema.tables) × AreTyped (type_of (table_types (columns_at p schema))) fields) (sym e) (h.there, h.typed)
+-- a record set that is a table
+pub stood_set : (schema : Schema) (set : FromSet) (name : List ℕ) → out-SetSource (out-FromSet set).source ≡ SetSource-F.Table name → IsOk (add_set schema [] set) → Stood schema name (add_set schema [] set)
+stood_set schema set name e h =
+    subst (λ (x : SetSource-F Expr SetSource Field FromSet Join Link Select). IsOk (add_source schema [] (out-FromSet set).alias x) → Stood schema name (add_source schema [] (out-FromSet set).alias x)) (sym e)
+    (stood_if (is_metadata name) (record { number = 10; name = [] }) schema (set_name (out-FromSet set).alias name) name) h
 
 -- the place of a table that is there is a small number
 pub small_place : (place : ℕ) (name : List ℕ) (tables : List TableSchema) (schema : Schema) → place ≡ place_named name tables → tables ≡ schema.tables → place_named name schema.tables < length schema.tables → IsWithin schema → place < 2 ^ 32

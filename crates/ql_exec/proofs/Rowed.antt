@@ -1,44 +1,59 @@
 -- The rows of an INSERT on a relation: which table they go into, and what they do.
-use Rattle.std.proofs.Common.{◌≡◌, ℕ, List, Option, Some, None, IfSome, Result, Ok, Err, sym, ap, subst}
+use Rattle.std.proofs.Common.{◌≡◌, ℕ, List, Option, Some, None, IfSome, Result, Ok, Err, sym, ap, subst, ◌∙◌}
 use Rattle.std.specs.Prelude.{IsErrAnd}
 use Rattle.std.specs.List.{AllByRecursion}
 use Rattle.ql_value.specs.declared.value.Value.{Value}
+use Rattle.ql_syntax.specs.declared.statement.ColumnDef.{ColumnDef}
 use Rattle.ql_syntax.specs.declared.typed.Typed.{Typed}
 use Rattle.ql_rel.specs.declared.db.Db.{Db}
+use Rattle.ql_rel.specs.declared.plan.Plan.{Plan}
 use Rattle.ql_rel.specs.declared.schema.Schema.{Schema}
 use Rattle.ql_syntax.specs.Answers.{Answer, then_with}
 use Rattle.ql_rel.specs.Databases.{schema_of, columns_at}
-use Rattle.ql_rel.specs.InsertTypes.{RowsTyped}
+use Rattle.ql_rel.specs.InsertEffects.{new_rows, rows_added, inserts}
 use Rattle.ql_rel.specs.NewNames.{place_named}
-use Rattle.ql_rel.specs.StatementEffects.{rows_added, rows_values, inserts}
+use Rattle.ql_rel.specs.PlanTypes.{ValuesTyped}
 use Rattle.ql_rel.specs.WellFormed.{Fits}
 use Rattle.ql_exec.specs.Answers.{Answers}
 use Rattle.ql_exec.specs.Carries.{Changes}
 use Rattle.ql_exec.specs.declared.fault.ExecFault.{ExecFault}
 use Rattle.ql_exec.specs.declared.fault.ExecFault.TheVariants as fault
-use Rattle.ql_exec.proofs.Fitted.{rows_fit}
+use Rattle.ql_exec.proofs.NewRows.{rows_fit}
 
-pub fit_at : (table place : ℕ) (schema : Schema) (rows : List (List Typed)) (values : List (List Value)) → table ≡ place → RowsTyped (columns_at place schema) rows → rows_values rows ≡ Ok values
+-- the columns of the table that was found are those at its place
+pub for_columns : (table place : ℕ) (schema : Schema) (columns : List ColumnDef) (p : Plan) → columns ≡ columns_at table schema → table ≡ place → ValuesTyped (columns_at place schema) p → ValuesTyped columns p
+for_columns table place schema columns p c e typed = subst (λ (cs : List ColumnDef). ValuesTyped cs p) (sym (c ∙ ap (λ (n : ℕ). columns_at n schema) e)) typed
+
+pub fit_at : (table place : ℕ) (schema : Schema) (columns : List ColumnDef) (p : Plan) (values : List (List Value)) → columns ≡ columns_at table schema → table ≡ place → ValuesTyped (columns_at place schema) p → new_rows p.targets columns p.rows ≡ Ok values
     → AllByRecursion (Fits (columns_at table schema)) values
-fit_at table place schema rows values e typed v = subst (λ (p : ℕ). AllByRecursion (Fits (columns_at p schema)) values) (sym e) (rows_fit (columns_at place schema) rows values typed v)
+fit_at table place schema columns p values c e typed v =
+    subst (λ (cs : List ColumnDef). AllByRecursion (Fits cs) values) c (rows_fit columns p.targets p.rows values (for_columns table place schema columns p c e typed) v)
 
 -- the rows did what the INSERT does
-pub insert_done : {T : Type 0} (name : List ℕ) (rows : List (List Typed)) (values : List (List Value)) (table : ℕ) (schema : Schema) (result : Result T ExecFault) (o now : Option Db)
-    → table ≡ place_named name schema.tables → rows_values rows ≡ Ok values → IfSome o (λ d. schema ≡ schema_of d)
-    → IfSome o (λ d. Changes (rows_added table values d) result now) → IfSome o (λ d. Changes (inserts name rows d) result now)
-insert_done name rows values table schema result None now e v s h = tt
-insert_done name rows values table schema result (Some d) now e v s h =
+pub insert_done : {T : Type 0} (name : List ℕ) (targets : List ℕ) (rows : List (List Typed)) (values : List (List Value)) (table : ℕ) (schema : Schema) (columns : List ColumnDef) (result : Result T ExecFault) (o now : Option Db)
+    → table ≡ place_named name schema.tables → columns ≡ columns_at table schema → new_rows targets columns rows ≡ Ok values → IfSome o (λ d. schema ≡ schema_of d)
+    → IfSome o (λ d. Changes (rows_added table values d) result now) → IfSome o (λ d. Changes (inserts name targets rows d) result now)
+insert_done name targets rows values table schema columns result None now e c v s h = tt
+insert_done name targets rows values table schema columns result (Some d) now e c v s h =
     let there : table ≡ place_named name (schema_of d).tables = subst (λ (z : Schema). table ≡ place_named name z.tables) s e in
+    let same : columns ≡ columns_at (place_named name (schema_of d).tables) (schema_of d) = subst (λ (z : Schema). columns ≡ columns_at table z) s c ∙ ap (λ (n : ℕ). columns_at n (schema_of d)) there in
+    let made : new_rows targets (columns_at (place_named name (schema_of d).tables) (schema_of d)) rows ≡ Ok values = subst (λ (cs : List ColumnDef). new_rows targets cs rows ≡ Ok values) same v in
     let moved : Changes (rows_added (place_named name (schema_of d).tables) values d) result now = subst (λ (p : ℕ). Changes (rows_added p values d) result now) there h in
-    subst (λ (a : Answer (List (List Value))). Changes (then_with a (λ vs. rows_added (place_named name (schema_of d).tables) vs d)) result now) (sym v) moved
+    subst (λ (a : Answer (List (List Value))). Changes (then_with a (λ vs. rows_added (place_named name (schema_of d).tables) vs d)) result now) (sym made) moved
 
-stops : (T : Type 0) (name : List ℕ) (rows : List (List Typed)) (f : ExecFault) (d : Db) (now : Option Db) → Answers {A = List (List Value)} (rows_values rows) (Err f) → Changes {T = T} (inserts name rows d) (Err f) now
-stops T name rows (fault.Refused r) d now h = ap (λ (a : Answer (List (List Value))). then_with a (λ vs. rows_added (place_named name (schema_of d).tables) vs d)) h
-stops T name rows (fault.Trouble t) d now h = tt
+stops : (T : Type 0) (name : List ℕ) (targets : List ℕ) (rows : List (List Typed)) (f : ExecFault) (d : Db) (now : Option Db) → Answers {A = List (List Value)} (new_rows targets (columns_at (place_named name (schema_of d).tables) (schema_of d)) rows) (Err f)
+    → Changes {T = T} (inserts name targets rows d) (Err f) now
+stops T name targets rows (fault.Refused r) d now h = ap (λ (a : Answer (List (List Value))). then_with a (λ vs. rows_added (place_named name (schema_of d).tables) vs d)) h
+stops T name targets rows (fault.Trouble t) d now h = tt
 
 -- a row of expressions is refused before any row goes in
-pub insert_stops : (T : Type 0) (name : List ℕ) (rows : List (List Typed)) (f : ExecFault) (result : Result T ExecFault) (o now : Option Db) → IsErrAnd result (λ e. e ≡ f) → Answers {A = List (List Value)} (rows_values rows) (Err f)
-    → IfSome o (λ d. Changes (inserts name rows d) result now)
-insert_stops T name rows f result None now i h = tt
-insert_stops T name rows f (Ok u) (Some d) now i h = absurd i
-insert_stops T name rows f (Err g) (Some d) now i h = subst (λ (z : ExecFault). Changes {T = T} (inserts name rows d) (Err z) now) (sym i) (stops T name rows f d now h)
+pub insert_stops : (T : Type 0) (name : List ℕ) (targets : List ℕ) (rows : List (List Typed)) (table : ℕ) (schema : Schema) (columns : List ColumnDef) (f : ExecFault) (result : Result T ExecFault) (o now : Option Db)
+    → IsErrAnd result (λ e. e ≡ f) → table ≡ place_named name schema.tables → columns ≡ columns_at table schema → IfSome o (λ d. schema ≡ schema_of d) → Answers {A = List (List Value)} (new_rows targets columns rows) (Err f)
+    → IfSome o (λ d. Changes (inserts name targets rows d) result now)
+insert_stops T name targets rows table schema columns f result None now i e c s h = tt
+insert_stops T name targets rows table schema columns f (Ok u) (Some d) now i e c s h = absurd i
+insert_stops T name targets rows table schema columns f (Err g) (Some d) now i e c s h =
+    let there : table ≡ place_named name (schema_of d).tables = subst (λ (z : Schema). table ≡ place_named name z.tables) s e in
+    let same : columns ≡ columns_at (place_named name (schema_of d).tables) (schema_of d) = subst (λ (z : Schema). columns ≡ columns_at table z) s c ∙ ap (λ (n : ℕ). columns_at n (schema_of d)) there in
+    let here = subst (λ (cs : List ColumnDef). Answers {A = List (List Value)} (new_rows targets cs rows) (Err f)) same h in
+    subst (λ (z : ExecFault). Changes {T = T} (inserts name targets rows d) (Err z) now) (sym i) (stops T name targets rows f d now here)

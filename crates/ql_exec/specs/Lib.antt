@@ -1,8 +1,8 @@
 pub mod Answers
 pub mod Carries
 pub mod Scans
+pub mod Turns
+pub mod Windows
 pub mod RowChanges
-pub mod Selects
 pub mod Depths
 pub mod EffectLaws
-pub mod WholeRows

@@ -2,7 +2,6 @@
 
 ghost use Rattle.std.specs.Prelude.{◌≡◌, ℕ, ◌+◌, ◌<◌, ◌≤◌, IsTrue, IsSome, List, length, drop, All, Ok, IfSome, IfOk, OnOk};
 ghost use Rattle.ql_syntax.specs.Answers.{then_with};
-ghost use Rattle.ql_syntax.specs.Typing.{WellTyped};
 ghost use Rattle.ql_rel.specs.declared.db.Row.{Row};
 ghost use Rattle.ql_rel.specs.ChangeEffects as spec;
 ghost use Rattle.ql_rel.specs.Changes.{changed, removed};
@@ -23,26 +22,14 @@ use crate::ExecFault;
 use crate::fault::fault_of_rel;
 use crate::insert::table_named;
 use crate::query::{next_row, set_row};
-use crate::values::{value_of, values_of};
+use crate::values::{is_meant, values_of};
 use ql_edge::{Name, NoMemory};
-use ql_eval::Typed;
 use ql_rel::{LAST_ID, Plan, Rel, Row};
 use ql_value::{Value, Values};
 use std::alloc::Global;
 
-/// Whether WHERE means a row.
-fn is_meant(alloc: Global, filter: &Option<Typed>, row: &[Value]) -> Result<bool, ExecFault>
-    requires { IfSome filter.now (WellTyped row.now) }
-    ensures { Answers (spec.is_meant filter.now row.now) result }
-{
-    match filter {
-        None => Ok(true),
-        Some(filter) => Ok(matches!(value_of(alloc, filter, row)?, Value::Bool(true))),
-    }
-}
-
 /// Puts new values at some places of a row, whose first value is its id.
-fn assign(targets: &[u64], new: Values, row: &mut Vec<Value>)
+pub(crate) fn assign(targets: &[u64], new: Values, row: &mut Vec<Value>)
     requires places { All (λ at. at + 1 < length row.old.items) targets.now }
     requires each { length new ≡ length targets.now }
     ensures { drop 1 row.new.items ≡ spec.with_new targets.now new (drop 1 row.old.items) }
@@ -55,7 +42,7 @@ fn assign(targets: &[u64], new: Values, row: &mut Vec<Value>)
 }
 
 /// The values of a row without the id before them.
-fn without_id(alloc: Global, row: Vec<Value>) -> Result<Values, NoMemory>
+pub(crate) fn without_id(alloc: Global, row: Vec<Value>) -> Result<Values, NoMemory>
     ensures { IfOk result (λ values. values ≡ drop 1 row.items) }
 {
     let mut values = Values::with_capacity(alloc, row.len())?;

@@ -1,21 +1,76 @@
 //! INSERT.
 
-ghost use Rattle.std.specs.Prelude.{◌≡◌, ℕ, ◌<◌, IsTrue, length, IfSome, OnOk};
+ghost use Rattle.std.specs.Prelude.{◌≡◌, [], ◌∷◌, ℕ, ◌<◌, IsTrue, length, IfSome, IfOk, OnOk};
 ghost use Rattle.std.specs.List.{AllByRecursion};
+ghost use Rattle.ql_syntax.specs.Typing.{type_of};
+ghost use Rattle.ql_value.specs.declared.value.Value.TheVariants as v;
 ghost use Rattle.ql_rel.specs.Databases.{columns_at};
-ghost use Rattle.ql_rel.specs.InsertTypes.{RowsTyped};
+ghost use Rattle.ql_rel.specs.InsertEffects as effect;
+ghost use Rattle.ql_rel.specs.InsertEffects.{row_added, rows_added, inserts};
 ghost use Rattle.ql_rel.specs.NewNames as spec;
-ghost use Rattle.ql_rel.specs.StatementEffects.{row_added, rows_added, inserts};
+ghost use Rattle.ql_rel.specs.PlanTypes.{AreValuesFor, ValuesTyped};
 ghost use Rattle.ql_rel.specs.WellFormed.{Fits};
+ghost use Rattle.ql_exec.specs.Answers.{Answers};
 ghost use Rattle.ql_exec.specs.Carries.{Changes, IsCausedExec, Leaves};
 
 use crate::ExecFault;
+use crate::change::{assign, without_id};
 use crate::fault::fault_of_rel;
-use crate::values::{ValueRows, rows_values};
-use ql_edge::Name;
+use crate::values::values_of;
+use ql_edge::{Items, Name, NoMemory};
+use ql_eval::{TypedRows, Typeds};
 use ql_rel::{Plan, Rel, TableSchema};
-use ql_value::Values;
+use ql_syntax::ColumnDef;
+use ql_value::{Value, Values};
 use std::alloc::Global;
+
+/// Rows of values.
+type ValueRows = Items<Values>;
+
+/// A row of NULLs as expressions see it: one in place of its id, and one for each column.
+fn null_row(alloc: Global, columns: &[ColumnDef]) -> Result<Values, NoMemory>
+    ensures { IfOk result (λ row. row ≡ v.Null ∷ effect.nulls columns.now) }
+{
+    let mut row = Values::with_capacity(alloc, columns.len().saturating_add(1))?;
+    row.push(Value::Null)?;
+    'columns: for _column in columns {
+        row.push(Value::Null)?;
+    }
+    Ok(row)
+}
+
+/// A new row of a table: the values of its expressions, each in its column, and NULL in every other one.
+fn new_row(
+    alloc: Global,
+    columns: &[ColumnDef],
+    targets: &[u64],
+    exprs: &Typeds,
+) -> Result<Values, ExecFault>
+    requires { AreValuesFor (type_of []) columns.now targets.now exprs.now }
+    ensures { Answers (effect.new_row targets.now columns.now exprs.now) result }
+{
+    let new = values_of(alloc, exprs, &[])?;
+    let mut row = null_row(alloc, columns)?.into_vec();
+    assign(targets, new, &mut row);
+    Ok(without_id(alloc, row)?)
+}
+
+/// New rows of a table, all of them.
+fn new_rows(
+    alloc: Global,
+    columns: &[ColumnDef],
+    targets: &[u64],
+    rows: &TypedRows,
+) -> Result<ValueRows, ExecFault>
+    requires { AllByRecursion (AreValuesFor (type_of []) columns.now targets.now) rows.now }
+    ensures { Answers (effect.new_rows targets.now columns.now rows.now) result }
+{
+    let mut values = ValueRows::with_capacity(alloc, rows.len())?;
+    'rows: for row in rows.as_slice() {
+        values.push(new_row(alloc, columns, targets, row)?)?;
+    }
+    Ok(values)
+}
 
 /// Adds a row to the table at a place.
 fn add_row<R: Rel>(alloc: Global, rel: &mut R, table: u32, values: &Values) -> Result<(), ExecFault>
@@ -85,7 +140,17 @@ pub(crate) fn table_named<R: Rel>(rel: &R, name: &Name) -> u32
     place_named(rel.schema().tables.as_slice(), name) as u32
 }
 
-/// Carries out an INSERT that has a plan: its rows are evaluated, and then go in one after another.
+/// The columns of the table at a place.
+pub(crate) fn columns_of<R: Rel>(rel: &R, table: u32) -> &[ColumnDef]
+    requires { table < length (R.schema rel.now).tables }
+    ensures { result.now ≡ columns_at table (R.schema rel.now) }
+{
+    rel.schema().tables.as_slice()[table as usize]
+        .columns
+        .as_slice()
+}
+
+/// Carries out an INSERT of rows that has a plan: all of them are made, and then go in one after another.
 pub fn insert_rows<R: Rel>(
     alloc: Global,
     rel: &mut R,
@@ -96,17 +161,22 @@ pub fn insert_rows<R: Rel>(
     requires level { 0 < length (R.saved rel.old) }
     requires table { spec.place_named name.now (R.schema rel.old).tables < length
         (R.schema rel.old).tables }
-    requires typed { RowsTyped (columns_at (spec.place_named name.now (R.schema rel.old).tables)
-        (R.schema rel.old)) plan.now.rows }
-    ensures done { IfSome (R.db rel.old) (λ d. Changes (inserts name.now plan.now.rows d) result
-        (R.db rel.new)) }
+    requires typed { ValuesTyped (columns_at (spec.place_named name.now (R.schema rel.old).tables)
+        (R.schema rel.old)) plan.now }
+    ensures done { IfSome (R.db rel.old) (λ d. Changes (inserts name.now plan.now.targets
+        plan.now.rows d) result (R.db rel.new)) }
     ensures schema { OnOk result (R.schema rel.new ≡ R.schema rel.old) }
     ensures ready { OnOk result (R.is_ready rel.new ≡ R.is_ready rel.old) }
     ensures leaves { Leaves R.saved R.limit R.told R.left R.fixed rel.old rel.new }
     ensures cause { IsCausedExec (R.limit rel.old) (R.db rel.old) result (R.faults rel.old)
         (R.faults rel.new) }
 {
-    let rows = rows_values(alloc, &plan.rows)?;
     let table = table_named(rel, name);
+    let rows = new_rows(
+        alloc,
+        columns_of(rel, table),
+        plan.targets.as_slice(),
+        &plan.rows,
+    )?;
     add_rows(alloc, rel, table, &rows)
 }

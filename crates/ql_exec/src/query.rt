@@ -1,24 +1,16 @@
-//! SELECT, row by row.
+//! The rows of a table, one by one.
 
 ghost use Rattle.std.specs.Prelude.{◌≡◌, ℕ, ◌<◌, ◌≤◌, IsTrue, length, IfSome, IfOk};
-ghost use Rattle.ql_syntax.specs.Typing.{type_of};
-ghost use Rattle.ql_rel.specs.Databases.{columns_at, rows_at};
-ghost use Rattle.ql_rel.specs.PlanTypes.{AreTyped};
-ghost use Rattle.ql_rel.specs.Rows as rows;
+ghost use Rattle.ql_rel.specs.Databases.{columns_at};
 ghost use Rattle.ql_rel.specs.SelectRows as spec;
 ghost use Rattle.ql_rel.specs.Rels.{row_after};
 ghost use Rattle.ql_rel.specs.WellFormed.{Fits, IsWellFormed};
-ghost use Rattle.ql_exec.specs.Answers.{AreTypedAt};
 ghost use Rattle.ql_exec.specs.Carries.{IsCausedExec, IsTroubleAlone, Leaves};
-ghost use Rattle.ql_exec.specs.Scans.{table_types, rows_text, AddsLine, AddsText};
 
 use crate::ExecFault;
 use crate::fault::fault_of_rel;
-use crate::text::add_line;
-use crate::values::values_of;
 use lldb_base::Trouble;
-use ql_edge::{Bytes, NoMemory};
-use ql_eval::Typeds;
+use ql_edge::NoMemory;
 use ql_rel::{LAST_ID, Rel, Row};
 use ql_value::{Kind, Value, Values};
 use std::alloc::Global;
@@ -33,31 +25,6 @@ pub(crate) fn set_row(alloc: Global, id: u64, values: Values) -> Result<Values, 
         row.push(value)?;
     }
     Ok(row)
-}
-
-/// Adds the line of the fields at a row.
-pub(crate) fn add_fields(
-    alloc: Global,
-    fields: &Typeds,
-    row: &[Value],
-    text: &mut Bytes,
-) -> Result<(), ExecFault>
-    requires { AreTypedAt row.now fields.now }
-    ensures { AddsLine (rows.values_of row.now fields.now) result text.old text.new }
-{
-    let values = values_of(alloc, fields, row)?;
-    add_line(values.as_slice(), text)?;
-    Ok(())
-}
-
-/// Adds the line of the fields at a row of a table.
-fn add_row(alloc: Global, fields: &Typeds, row: Row, text: &mut Bytes) -> Result<(), ExecFault>
-    requires { AreTypedAt (spec.set_row row) fields.now }
-    ensures { AddsLine (rows.values_of (spec.set_row row) fields.now) result text.old text.new }
-{
-    let Row { id, values } = row;
-    let row = set_row(alloc, id, values)?;
-    add_fields(alloc, fields, row.as_slice(), text)
 }
 
 /// The first row of a table whose id is over `after`. An id over the greatest is of a damaged content.
@@ -97,34 +64,4 @@ pub(crate) fn next_row<R: Rel>(
         Ok(false) => Ok(None),
         Err(fault) => Err(fault_of_rel(alloc, fault)),
     }
-}
-
-/// Adds a line for each row of a table, by rising id.
-pub fn add_table<R: Rel>(
-    alloc: Global,
-    rel: &mut R,
-    table: u32,
-    fields: &Typeds,
-    text: &mut Bytes,
-) -> Result<(), ExecFault>
-    requires ready { IsTrue (R.is_ready rel.old) }
-    requires table { table < length (R.schema rel.old).tables }
-    requires formed { IfSome (R.db rel.old) IsWellFormed }
-    requires typed { AreTyped (type_of (table_types (columns_at table (R.schema rel.old))))
-        fields.now }
-    ensures text { IfSome (R.db rel.old) (λ d. AddsText (rows_text fields.now (rows_at table d))
-        result text.old text.new) }
-    ensures db { R.db rel.new ≡ R.db rel.old }
-    ensures schema { R.schema rel.new ≡ R.schema rel.old }
-    ensures ready { R.is_ready rel.new ≡ R.is_ready rel.old }
-    ensures leaves { Leaves R.saved R.limit R.told R.left R.fixed rel.old rel.new }
-    ensures cause { IsCausedExec (R.limit rel.old) (R.db rel.old) result (R.faults rel.old)
-        (R.faults rel.new) }
-{
-    let mut after = 0;
-    'rows: while let Some(row) = next_row(alloc, rel, table, after)? {
-        after = row.id;
-        add_row(alloc, fields, row, text)?;
-    }
-    Ok(())
 }

@@ -7,30 +7,20 @@ ghost use Rattle.ql_rel.specs.StatementPlans.{statement_plan};
 ghost use Rattle.ql_rel.specs.WellFormed.{IsWellFormed};
 ghost use Rattle.ql_exec.specs.Carries.{Does, IsCausedExec, Leaves};
 ghost use Rattle.ql_exec.specs.Depths.{IsDeepEnough};
-ghost use Rattle.ql_exec.specs.WholeRows.{are_whole};
 
 use crate::ExecFault;
+use crate::alter::{add_column, drop_column};
 use crate::change::change_table;
 use crate::create::create_table;
 use crate::drop::{drop_table, truncate_table};
 use crate::fault::refusal;
 use crate::insert::insert_rows;
 use crate::select::add_select;
-use ql_edge::{Bytes, Names};
+use ql_edge::Bytes;
 use ql_rel::{Plan, Rel};
 use ql_syntax::{RowSource, Statement};
 use ql_value::LATER;
 use std::alloc::Global;
-
-/// Whether an INSERT has rows for all columns of its table.
-fn are_whole(names: &Names, source: &RowSource) -> bool
-    ensures { result ≡ are_whole names.now source.now }
-{
-    match source {
-        RowSource::Rows(_) => names.len() == 0,
-        RowSource::Query(_) => false,
-    }
-}
 
 /// Carries out a statement that has a plan: its text is added behind what is there, where the truth says so with the
 /// names of its fields. After a refusal the text is as before. What is not built yet is refused.
@@ -61,23 +51,14 @@ pub fn carry<R: Rel>(
             quiet,
             table,
             columns,
-        } => {
-            if *quiet {
-                return Err(refusal(alloc, LATER));
-            }
-            create_table(alloc, rel, table, columns)
-        }
+        } => create_table(alloc, rel, *quiet, table, columns),
         Statement::DropTable { quiet, table } => drop_table(alloc, rel, *quiet, table),
-        Statement::Insert {
-            table,
-            columns,
-            source,
-        } => {
-            if !are_whole(columns, source.get()) {
-                return Err(refusal(alloc, LATER));
-            }
-            insert_rows(alloc, rel, table, plan)
-        }
+        Statement::AddColumn { table, column } => add_column(alloc, rel, table, column.get()),
+        Statement::DropColumn { table, column } => drop_column(alloc, rel, table, column),
+        Statement::Insert { table, source, .. } => match source.get() {
+            RowSource::Rows(_) => insert_rows(alloc, rel, table, plan),
+            RowSource::Query(_) => Err(refusal(alloc, LATER)),
+        },
         Statement::Update { table, .. } => change_table(alloc, rel, table, false, plan),
         Statement::Delete { table, .. } => change_table(alloc, rel, table, true, plan),
         Statement::Truncate { table } => truncate_table(alloc, rel, table),

@@ -1,23 +1,17 @@
 //! The values of expressions.
 
-ghost use Rattle.std.specs.Prelude.{◌≡◌, [], IfOk};
-ghost use Rattle.std.specs.List.{AllByRecursion};
+ghost use Rattle.std.specs.Prelude.{IfSome};
 ghost use Rattle.ql_syntax.specs.Typing.{WellTyped};
 ghost use Rattle.ql_syntax.specs.Values.{value_at};
 ghost use Rattle.ql_rel.specs.Rows as spec;
-ghost use Rattle.ql_rel.specs.StatementEffects as effect;
 ghost use Rattle.ql_exec.specs.Answers.{Answers, AreTypedAt};
 
 use crate::ExecFault;
 use crate::fault::refusal;
 use lldb_base::Trouble;
-use ql_edge::Items;
-use ql_eval::{EvalFault, Typed, TypedRows, Typeds, eval};
+use ql_eval::{EvalFault, Typed, Typeds, eval};
 use ql_value::{DIVIDE, NEGATIVE_COUNT, RANGE, Value, Values};
 use std::alloc::Global;
-
-/// Rows of values.
-pub(crate) type ValueRows = Items<Values>;
 
 /// The value of an expression at a row.
 pub(crate) fn value_of(alloc: Global, expr: &Typed, row: &[Value]) -> Result<Value, ExecFault>
@@ -33,6 +27,21 @@ pub(crate) fn value_of(alloc: Global, expr: &Typed, row: &[Value]) -> Result<Val
     }
 }
 
+/// Whether WHERE means a row.
+pub(crate) fn is_meant(
+    alloc: Global,
+    filter: &Option<Typed>,
+    row: &[Value],
+) -> Result<bool, ExecFault>
+    requires { IfSome filter.now (WellTyped row.now) }
+    ensures { Answers (spec.is_meant filter.now row.now) result }
+{
+    match filter {
+        None => Ok(true),
+        Some(filter) => Ok(matches!(value_of(alloc, filter, row)?, Value::Bool(true))),
+    }
+}
+
 /// The values of expressions at a row, from left to right.
 pub(crate) fn values_of(alloc: Global, exprs: &Typeds, row: &[Value]) -> Result<Values, ExecFault>
     requires { AreTypedAt row.now exprs.now }
@@ -41,18 +50,6 @@ pub(crate) fn values_of(alloc: Global, exprs: &Typeds, row: &[Value]) -> Result<
     let mut values = Values::with_capacity(alloc, exprs.len())?;
     'exprs: for expr in exprs.as_slice() {
         values.push(value_of(alloc, expr, row)?)?;
-    }
-    Ok(values)
-}
-
-/// The values of rows of expressions that see nothing.
-pub(crate) fn rows_values(alloc: Global, rows: &TypedRows) -> Result<ValueRows, ExecFault>
-    requires { AllByRecursion (AreTypedAt []) rows.now }
-    ensures { Answers (effect.rows_values rows.now) result }
-{
-    let mut values = ValueRows::with_capacity(alloc, rows.len())?;
-    'rows: for row in rows.as_slice() {
-        values.push(values_of(alloc, row, &[])?)?;
     }
     Ok(values)
 }

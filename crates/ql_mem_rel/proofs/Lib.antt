@@ -1,4 +1,5 @@
 mod PlaceLemmas
+mod PieceLemmas
 mod TableLemmas
 mod CheckLemmas
 mod SchemaLemmas

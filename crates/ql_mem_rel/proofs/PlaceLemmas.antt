@@ -25,16 +25,16 @@ rise_le from (row ∷ rows) zero (suc j) d h o l =
 rise_le from (row ∷ rows) (suc i) zero d h o l = absurd (omega arith)
 rise_le from (row ∷ rows) (suc i) (suc j) d h o l = rise_le (row.id + 1) rows i j d h.1 (omega arith) (omega arith)
 
-until-true : (a b : ℕ) → a ≤ b → nat_le a b ≡ true
+pub until-true : (a b : ℕ) → a ≤ b → nat_le a b ≡ true
 until-true a b h = grind (arith, nat_tests)
 
-until-le : (a b : ℕ) → nat_le a b ≡ true → a ≤ b
+pub until-le : (a b : ℕ) → nat_le a b ≡ true → a ≤ b
 until-le a b h = grind (arith, nat_tests)
 
-after_until : (a b : ℕ) → nat_le a b ≡ true → nat_lt b a ≡ false
+pub after_until : (a b : ℕ) → nat_le a b ≡ true → nat_lt b a ≡ false
 after_until a b h = grind (arith, nat_tests)
 
-after_not : (a b : ℕ) → nat_le a b ≡ false → nat_lt b a ≡ true
+pub after_not : (a b : ℕ) → nat_le a b ≡ false → nat_lt b a ≡ true
 after_not a b h = grind (arith, nat_tests)
 
 -- the rows up to an id come before the others
@@ -64,14 +64,14 @@ found_after id (row ∷ rows) =
 eq-true : (a b : ℕ) → (a == b) ≡ true → a ≡ b
 eq-true a b h = grind (arith, nat_tests)
 
-eq-other : (a b : ℕ) → a < b → (a == b) ≡ false
+pub eq-other : (a b : ℕ) → a < b → (a == b) ≡ false
 eq-other a b h = grind (arith, nat_tests)
 
-eq-over : (a b : ℕ) → b < a → (a == b) ≡ false
+pub eq-over : (a b : ℕ) → b < a → (a == b) ≡ false
 eq-over a b h = grind (arith, nat_tests)
 
 -- no row has an id below the first one
-none_below : (id from : ℕ) (rows : List Row) → Rise from rows → id < from → place_with id rows ≡ None
+pub none_below : (id from : ℕ) (rows : List Row) → Rise from rows → id < from → place_with id rows ≡ None
 none_below id from [] h l = refl
 none_below id from (row ∷ rows) h l =
     rw (eq-over row.id id (omega (arith, h.0)), none_below id (row.id + 1) rows h.1 (omega (arith, h.0))) refl
@@ -82,10 +82,10 @@ eq-same a b h = grind (arith, nat_tests)
 eq-not : (a b : ℕ) → (a ≡ b → ⊥) → (a == b) ≡ false
 eq-not a b h = grind (arith, nat_tests)
 
-lt-false : (a b : ℕ) → nat_lt a b ≡ false → b ≤ a
+pub lt-false : (a b : ℕ) → nat_lt a b ≡ false → b ≤ a
 lt-false a b h = grind (arith, nat_tests)
 
-lt-true : (a b : ℕ) → nat_lt a b ≡ true → a < b
+pub lt-true : (a b : ℕ) → nat_lt a b ≡ true → a < b
 lt-true a b h = grind (arith, nat_tests)
 
 -- the row behind an id less one is the row with the id, if it has that id

@@ -10,6 +10,8 @@ mod plain_tables;
 mod row_check;
 mod row_copy;
 mod row_list;
+mod row_piece;
+mod row_pieces;
 mod schema_change;
 
 pub use mem_rel::MemRel;

@@ -13,6 +13,7 @@ use crate::plain_db::PlainDb;
 use crate::plain_tables::is_past_column;
 use crate::row_copy::add_values;
 use crate::row_list::RowList;
+use crate::row_piece::RowPiece;
 use crate::schema_change::{change_columns, indexes_beside};
 use ql_edge::NoMemory;
 use ql_rel::{COLUMN_LIMIT, ROW_LIMIT, RelFault, Row, Schema, add_columns, copy_column};
@@ -30,20 +31,35 @@ fn wider_row(alloc: Global, row: &Row) -> Result<Row, NoMemory>
     Ok(Row { id: row.id, values })
 }
 
-/// Copies of the rows, each with NULL behind its values.
-fn wider_rows(alloc: Global, rows: &[Row]) -> Result<RowList, RelFault>
+/// Copies of the rows of a piece, each with NULL behind its values.
+fn wider_piece(alloc: Global, rows: &[Row]) -> Result<RowPiece, RelFault>
     ensures rows { IfOk result (λ wide. wide ≡ map with_null rows.now) }
     ensures refused { IsRefusedBy (refused_if (list_any is_long_with_null rows.now)
         fault.RowTooLong) result }
     ensures memory { WantsMemory result }
 {
-    let mut wide = RowList::new(alloc);
+    let mut wide = RowPiece::new(alloc);
     for row in rows {
         let row = wider_row(alloc, row)?;
         if row_length(&row.values) > ROW_LIMIT {
             return Err(RelFault::RowTooLong);
         }
         wide.push(row)?;
+    }
+    Ok(wide)
+}
+
+/// Copies of the rows of a table, each with NULL behind its values.
+fn wider_rows(alloc: Global, rows: &RowList) -> Result<RowList, RelFault>
+    ensures rows { IfOk result (λ wide. wide ≡ map with_null rows.now) }
+    ensures refused { IsRefusedBy (refused_if (list_any is_long_with_null rows.now)
+        fault.RowTooLong) result }
+    ensures memory { WantsMemory result }
+{
+    let pieces = rows.pieces();
+    let mut wide = RowList::with_capacity(alloc, pieces.len())?;
+    for piece in pieces {
+        wide.push_piece(wider_piece(alloc, piece.as_slice())?)?;
     }
     Ok(wide)
 }
@@ -60,14 +76,27 @@ fn narrower_row(alloc: Global, row: &Row, place: usize) -> Result<Row, NoMemory>
     Ok(Row { id: row.id, values })
 }
 
-/// Copies of the rows without the values at a place.
-fn narrower_rows(alloc: Global, rows: &[Row], place: usize) -> Result<RowList, NoMemory>
+/// Copies of the rows of a piece without the values at a place.
+fn narrower_piece(alloc: Global, rows: &[Row], place: usize) -> Result<RowPiece, NoMemory>
     requires { AllLonger place rows.now }
     ensures { IfOk result (λ narrow. narrow ≡ map (without_value place) rows.now) }
 {
-    let mut narrow = RowList::new(alloc);
+    let mut narrow = RowPiece::new(alloc);
     for row in rows {
         narrow.push(narrower_row(alloc, row, place)?)?;
+    }
+    Ok(narrow)
+}
+
+/// Copies of the rows of a table without the values at a place.
+fn narrower_rows(alloc: Global, rows: &RowList, place: usize) -> Result<RowList, NoMemory>
+    requires { AllLonger place rows.now }
+    ensures { IfOk result (λ narrow. narrow ≡ map (without_value place) rows.now) }
+{
+    let pieces = rows.pieces();
+    let mut narrow = RowList::with_capacity(alloc, pieces.len())?;
+    for piece in pieces {
+        narrow.push_piece(narrower_piece(alloc, piece.as_slice(), place)?)?;
     }
     Ok(narrow)
 }
@@ -139,7 +168,7 @@ impl PlainDb {
     {
         let old = &self.schema.tables.as_slice()[table];
         check_column(alloc, &old.columns, column)?;
-        let rows = wider_rows(alloc, self.rows[table].as_slice())?;
+        let rows = wider_rows(alloc, &self.rows[table])?;
         Ok(rows)
     }
 
@@ -182,7 +211,7 @@ impl PlainDb {
         let gone = &old.columns.as_slice()[column];
         let all = self.schema.indexes.as_slice();
         let indexes = indexes_beside(alloc, all, &old.name, &gone.name)?;
-        let rows = narrower_rows(alloc, self.rows[table].as_slice(), column)?;
+        let rows = narrower_rows(alloc, &self.rows[table], column)?;
         let columns = narrower_columns(alloc, old.columns.as_slice(), column)?;
         let tables = change_columns(alloc, self.schema.tables.as_slice(), table, columns)?;
         put_rows(&mut self.rows, table, rows);

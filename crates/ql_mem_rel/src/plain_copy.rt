@@ -6,17 +6,30 @@ ghost use Rattle.ql_mem_rel.specs.Kept.{db_of};
 use crate::plain_db::PlainDb;
 use crate::row_copy::copy_row;
 use crate::row_list::RowList;
+use crate::row_piece::RowPiece;
 use ql_edge::NoMemory;
 use ql_rel::{Indexes, Row, Schema, TableSchemas, copy_schema};
 use std::alloc::Global;
 
-/// A copy of the rows of a table.
-fn copy_rows(alloc: Global, rows: &[Row]) -> Result<RowList, NoMemory>
+/// A copy of a piece.
+fn copy_piece(alloc: Global, rows: &[Row]) -> Result<RowPiece, NoMemory>
     ensures { IfOk result (λ copy. copy ≡ rows.now) }
 {
-    let mut copy = RowList::with_capacity(alloc, rows.len())?;
+    let mut copy = RowPiece::with_capacity(alloc, rows.len())?;
     for row in rows {
         copy.push(copy_row(alloc, row)?)?;
+    }
+    Ok(copy)
+}
+
+/// A copy of the rows of a table.
+fn copy_rows(alloc: Global, rows: &RowList) -> Result<RowList, NoMemory>
+    ensures { IfOk result (λ copy. copy ≡ rows.now) }
+{
+    let pieces = rows.pieces();
+    let mut copy = RowList::with_capacity(alloc, pieces.len())?;
+    for piece in pieces {
+        copy.push_piece(copy_piece(alloc, piece.as_slice())?)?;
     }
     Ok(copy)
 }
@@ -27,7 +40,7 @@ fn copy_all(alloc: Global, rows: &[RowList]) -> Result<Vec<RowList>, NoMemory>
 {
     let mut copy = Vec::with_capacity(alloc, rows.len())?;
     for list in rows {
-        copy.push(copy_rows(alloc, list.as_slice())?)?;
+        copy.push(copy_rows(alloc, list)?)?;
     }
     Ok(copy)
 }

@@ -18,13 +18,13 @@ use ql_value::Values;
 use std::alloc::Global;
 
 /// Adds a row to the rows of a table.
-fn push_row(rows: &mut Vec<RowList>, table: usize, row: Row) -> Result<(), NoMemory>
+fn push_row(alloc: Global, rows: &mut Vec<RowList>, table: usize, row: Row) -> Result<(), NoMemory>
     requires { table < vec_len rows.old }
     ensures ok { OnOk result (rows.new.items ≡ changed_at table (with_row row) rows.old.items) }
     ensures err { OnErr result (rows.new.items ≡ rows.old.items) }
     ensures len { vec_len rows.new ≡ vec_len rows.old }
 {
-    rows[table].push(row)
+    rows[table].push(alloc, row)
 }
 
 /// Gives a row of a table other values.
@@ -108,7 +108,7 @@ impl PlainDb {
         self.check_insert(alloc, table, values)?;
         let id = self.next_id;
         let values = copy_values(alloc, values)?;
-        push_row(&mut self.rows, table, Row { id, values })?;
+        push_row(alloc, &mut self.rows, table, Row { id, values })?;
         self.next_id = id + 1;
         Ok(id)
     }

@@ -1,11 +1,13 @@
 //! The rows of one table, by rising id.
-ghost use Rattle.std.specs.Prelude.{◌≡◌, [], ◌∷◌, ◌++◌, ◌≤◌, length, map, filter, slice_get, find, IfOk, OnOk, OnErr};
+ghost use Rattle.std.specs.Prelude.{◌≡◌, [], ◌∷◌, ◌++◌, map, filter, find, IfOk, OnOk, OnErr};
 ghost use Rattle.std.specs.Option.{option_copied};
 ghost use Rattle.ql_rel.specs.Changes.{with_values, is_other};
-ghost use Rattle.ql_mem_rel.specs.Places.{place_after, place_with};
+ghost use Rattle.ql_mem_rel.specs.Pieces.{rows_of};
 ghost use Rattle.ql_rel.specs.Rels.{is_after, has_id};
 ghost use Rattle.ql_rel.specs.WellFormed.{Rise};
 
+use crate::row_piece::RowPiece;
+use crate::row_pieces::{change, first_after, push, push_piece, remove, with_id};
 use ql_edge::NoMemory;
 use ql_rel::Row;
 use ql_value::Values;
@@ -13,18 +15,23 @@ use std::alloc::Global;
 use std::marker::Model;
 
 /// The rows of a table, which contracts see as their list.
+///
+/// They lie in pieces of bounded size, so that no call moves more rows than those of one piece.
 #[derive(Debug, Drop)]
 pub(crate) struct RowList {
-    rows: Vec<Row>,
+    pieces: Vec<RowPiece>,
 }
 
 impl Model for RowList {
     ghost use Rattle.std.specs.Prelude.{List};
     ghost use Rattle.ql_rel.specs.declared.db.Row.{Row};
+    ghost use Rattle.ql_mem_rel.specs.Pieces.{rows_of, AllFilled};
 
     ghost Value = { List Row };
 
-    ghost view = { λ l. l.rows.items };
+    ghost view = { λ l. rows_of l.pieces.items };
+
+    ghost invariant = { λ l. AllFilled l.pieces.items };
 }
 
 impl RowList {
@@ -32,66 +39,54 @@ impl RowList {
         ensures { result ≡ [] }
     {
         RowList {
-            rows: Vec::new(alloc),
+            pieces: Vec::new(alloc),
         }
     }
 
-    /// No rows, with room for so many.
-    pub fn with_capacity(alloc: Global, capacity: usize) -> Result<RowList, NoMemory>
+    /// No rows, with room for so many pieces.
+    pub fn with_capacity(alloc: Global, pieces: usize) -> Result<RowList, NoMemory>
         ensures { IfOk result (λ list. list ≡ []) }
     {
         Ok(RowList {
-            rows: Vec::with_capacity(alloc, capacity)?,
+            pieces: Vec::with_capacity(alloc, pieces)?,
         })
     }
 
-    pub fn as_slice(&self) -> &[Row]
-        ensures { result.now ≡ self.now }
+    /// The pieces, of which the rows are those of one after the other.
+    pub fn pieces(&self) -> &[RowPiece]
+        ensures { rows_of result.now ≡ self.now }
     {
-        self.rows.as_slice()
+        self.pieces.as_slice()
     }
 
-    pub fn push(&mut self, row: Row) -> Result<(), NoMemory>
+    pub fn push(&mut self, alloc: Global, row: Row) -> Result<(), NoMemory>
         ensures ok { OnOk result (self.new ≡ self.old ++ row ∷ []) }
         ensures err { OnErr result (self.new ≡ self.old) }
     {
-        self.rows.push(row)?;
-        Ok(())
+        push(alloc, &mut self.pieces, row)
     }
 
-    /// Lets the rows go, and keeps the room.
+    /// Adds the rows of a piece.
+    pub fn push_piece(&mut self, piece: RowPiece) -> Result<(), NoMemory>
+        ensures ok { OnOk result (self.new ≡ self.old ++ piece) }
+        ensures err { OnErr result (self.new ≡ self.old) }
+    {
+        push_piece(&mut self.pieces, piece)
+    }
+
+    /// Lets the rows go.
     pub fn clear(&mut self)
         ensures { self.new ≡ [] }
     {
-        self.rows.clear();
-    }
-
-    /// The place of the first row whose id is over `id`.
-    fn place_after(&self, id: u64) -> usize
-        requires { Rise 1 self.now }
-        ensures { result ≡ place_after id self.now }
-    {
-        self.rows.as_slice().partition_point(|row| row.id <= id)
-    }
-
-    /// The place of the row with the id.
-    fn place_with(&self, id: u64) -> Option<usize>
-        requires { Rise 1 self.now }
-        ensures { result ≡ place_with id self.now }
-    {
-        let at = self.place_after(id.saturating_sub(1));
-        let row = self.rows.as_slice().get(at)?;
-        if row.id == id { Some(at) } else { None }
+        self.pieces.clear();
     }
 
     /// The first row whose id is over `id`.
-    #[tactic(auto, using(crate::proofs::PlaceLemmas::found_after))]
     pub fn first_after(&self, id: u64) -> Option<&Row>
         requires { Rise 1 self.now }
         ensures { option_copied result ≡ find (is_after id) self.now }
     {
-        let at = self.place_after(id);
-        self.rows.as_slice().get(at)
+        first_after(self.pieces.as_slice(), id)
     }
 
     /// The row with the id.
@@ -99,10 +94,7 @@ impl RowList {
         requires { Rise 1 self.now }
         ensures { option_copied result ≡ find (has_id id) self.now }
     {
-        match self.place_with(id) {
-            Some(at) => self.rows.as_slice().get(at),
-            None => None,
-        }
+        with_id(self.pieces.as_slice(), id)
     }
 
     /// Gives the row with the id other values, where there is one.
@@ -110,9 +102,7 @@ impl RowList {
         requires { Rise 1 self.old }
         ensures { self.new ≡ map (with_values id values) self.old }
     {
-        if let Some(at) = self.place_with(id) {
-            self.rows[at] = Row { id, values };
-        }
+        change(&mut self.pieces, id, values);
     }
 
     /// Takes the row with the id away, where there is one.
@@ -120,8 +110,6 @@ impl RowList {
         requires { Rise 1 self.old }
         ensures { self.new ≡ filter (is_other id) self.old }
     {
-        if let Some(at) = self.place_with(id) {
-            self.rows.remove(at);
-        }
+        remove(&mut self.pieces, id);
     }
 }

@@ -57,7 +57,7 @@ or_second true false c = refl
 or_second false true c = refl
 or_second false false c = refl
 
-fewer : (limit m n : ℕ) → m ≤ n → nat_le limit n ≡ false → nat_le limit m ≡ false
+pub fewer : (limit m n : ℕ) → m ≤ n → nat_le limit n ≡ false → nat_le limit m ≡ false
 fewer limit m n l e = grind (arith, nat_tests)
 
 pub bytes_other : (a b : List ℕ) → bytes_eq a b ≡ false → bytes_eq b a ≡ false

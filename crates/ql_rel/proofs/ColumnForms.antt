@@ -108,7 +108,7 @@ wide_holds db c t e h = record {
   short = wide_short t c db.indexes t.rows h.fit e h.short;
 }
 
-abbrev wider : ColumnDef → TableSchema → TableSchema
+abbrev pub wider : ColumnDef → TableSchema → TableSchema
 wider c t = record { name = t.name; columns = t.columns ++ c ∷ [] }
 
 room : (limit n : ℕ) → nat_le limit n ≡ false → n < limit

@@ -28,11 +28,11 @@ use Rattle.ql_rel.proofs.Fits.{then_ok}
 use Rattle.ql_rel.proofs.MadeLemmas.{NameOf, plus, made_plus, two_parts, both_parts}
 use Rattle.ql_rel.proofs.NameLemmas.{or_parts, map_placed}
 
-not_refused : (b : Bool) (r : Refusal) (u : Unit {0}) → ◌≡◌ {A = Answer (Unit {0})} (if b then Err r else Ok tt) (Ok u) → b ≡ false
+pub not_refused : (b : Bool) (r : Refusal) (u : Unit {0}) → ◌≡◌ {A = Answer (Unit {0})} (if b then Err r else Ok tt) (Ok u) → b ≡ false
 not_refused true r u e = absurd (cc)
 not_refused false r u e = refl
 
-is_allowed : (b : Bool) (r : Refusal) (u : Unit {0}) → ◌≡◌ {A = Answer (Unit {0})} (if b then Ok tt else Err r) (Ok u) → b ≡ true
+pub is_allowed : (b : Bool) (r : Refusal) (u : Unit {0}) → ◌≡◌ {A = Answer (Unit {0})} (if b then Ok tt else Err r) (Ok u) → b ≡ true
 is_allowed true r u e = refl
 is_allowed false r u e = absurd (cc)
 
@@ -52,15 +52,15 @@ fresh_column before c u e =
       plain = is_allowed (takes_all c) (record { number = 10; name = [] }) u b.2;
     }
 
-rule_none : (scope : Scope) (o : Option Expr) → is_none o ≡ true → is_rule scope o ≡ true
+pub rule_none : (scope : Scope) (o : Option Expr) → is_none o ≡ true → is_rule scope o ≡ true
 rule_none scope None e = refl
 rule_none scope (Some x) e = absurd (cc)
 
-default_none : (kind : Kind) (o : Option Expr) → is_none o ≡ true → is_default kind o ≡ true
+pub default_none : (kind : Kind) (o : Option Expr) → is_none o ≡ true → is_default kind o ≡ true
 default_none kind None e = refl
 default_none kind (Some x) e = absurd (cc)
 
-is_not : (b : Bool) → b ≡ false → not b ≡ true
+pub is_not : (b : Bool) → b ≡ false → not b ≡ true
 is_not b e = rw e refl
 
 column_stands : (scope : Scope) (before : List (List ℕ)) (c : ColumnDef) → IsFresh before c → is_column scope c ≡ true
@@ -70,7 +70,7 @@ column_stands scope before c f =
     both_parts (not (is_reserved c.name)) (is_rule scope c.rule && is_default c.kind c.default) (is_not (is_reserved c.name) f.free)
     (both_parts (is_rule scope c.rule) (is_default c.kind c.default) (rule_none scope c.rule bare.0) (default_none c.kind c.default bare.1))
 
-any_front : (q : List ℕ → Bool) (xs ys : List (List ℕ)) → list_any q xs ≡ true → list_any q (xs ++ ys) ≡ true
+pub any_front : (q : List ℕ → Bool) (xs ys : List (List ℕ)) → list_any q xs ≡ true → list_any q (xs ++ ys) ≡ true
 any_front q [] ys e = absurd (cc)
 any_front q (x ∷ xs) ys e =
     let rest = any_front q xs ys in
@@ -114,7 +114,7 @@ columns_hold scope before (c ∷ cs) u e =
       both_parts (is_column scope c) (list_all (is_column scope) cs) (column_stands scope before c f) rest.1,
     )
 
-some_is : (n : ℕ) → nat_lt 0 (suc n) ≡ true
+pub some_is : (n : ℕ) → nat_lt 0 (suc n) ≡ true
 some_is n = grind (arith, nat_tests)
 
 columns_stand : (name : List ℕ) (cs : List ColumnDef) (u : Unit {0}) → some_columns cs ≡ Ok u → are_columns name cs ≡ true

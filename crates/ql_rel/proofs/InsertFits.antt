@@ -18,10 +18,9 @@ use Rattle.ql_syntax.specs.Checked.{meet_type, require_type}
 use Rattle.ql_syntax.specs.Resolving.{check_expr}
 use Rattle.ql_rel.specs.declared.change.Target.{Target}
 use Rattle.ql_rel.specs.InsertPlans.{value_row, rows_plan}
-use Rattle.ql_rel.specs.InsertTypes.{RowTyped, RowsTyped}
 use Rattle.ql_rel.specs.Plans.{row_scope}
 use Rattle.ql_rel.specs.PlanTypes.{IsValueFor, AreValuesFor, ValuesTyped}
-use Rattle.ql_rel.specs.Targets.{all_targets, numbers_of, for_kind, for_targets, counted_for}
+use Rattle.ql_rel.specs.Targets.{numbers_of, for_kind, for_targets, counted_for}
 use Rattle.ql_rel.proofs.Fits.{Fits, then_ok, same_ok, ruled_ok, meet_fits}
 use Rattle.ql_rel.proofs.Judged.{is_so}
 use Rattle.ql_syntax.proofs.NoAggregates.{row_type}
@@ -111,16 +110,3 @@ pub rows_typed : (columns : List ColumnDef) (targets : List Target) (exprs : Lis
 rows_typed columns targets exprs rows f a =
     each_row targets (AreValuesFor (type_of []) columns (numbers_of targets))
     (λ parts row seen n r. values_for (type_of []) Seen (kind_typed []) columns targets parts row f n seen r) exprs rows a
-
--- rows for all columns
-whole_row : (at : ℕ) (columns : List ColumnDef) (parts : List Checked) (row : List Typed) → AllByRecursion Seen parts → length parts ≡ length (all_targets at columns) → for_targets (all_targets at columns) parts ≡ Ok row → RowTyped columns row
-whole_row at [] [] row h n a = subst (RowTyped []) (same_ok [] row a) tt
-whole_row at [] (c ∷ parts) row h n a = absurd (omega (arith, n))
-whole_row at (column ∷ columns) [] row h n a = absurd (omega (arith, n))
-whole_row at (column ∷ columns) (c ∷ parts) row h n a =
-    let t = then_ok (for_kind column.kind c) (λ tree. then_with (for_targets (all_targets (suc at) columns) parts) (λ trees. Ok (tree ∷ trees))) row a in
-    let r = then_ok (for_targets (all_targets (suc at) columns) parts) (λ trees. Ok (t.0 ∷ trees)) row t.2 in
-    subst (RowTyped (column ∷ columns)) (same_ok (t.0 ∷ r.0) row r.2) (kind_typed [] column.kind c t.0 h.0 t.1, whole_row (suc at) columns parts r.0 h.1 (omega (arith, n)) r.1)
-
-pub whole_rows : (columns : List ColumnDef) (exprs : List (List Expr)) (rows : List (List Typed)) → all_of (map (value_row (all_targets 0 columns)) exprs) ≡ Ok rows → RowsTyped columns rows
-whole_rows columns exprs rows a = each_row (all_targets 0 columns) (RowTyped columns) (λ parts row seen n r. whole_row 0 columns parts row seen n r) exprs rows a

@@ -16,15 +16,18 @@ pub mod FormLemmas
 mod NameLemmas
 mod AcceptLemmas
 mod TableForms
-mod ColumnForms
-mod NarrowForms
+pub mod ColumnForms
+pub mod NarrowForms
 mod TextLemmas
 mod EventLemmas
 mod StatementExamples
+mod SelectExamples
 pub mod TargetFits
 pub mod InsertFits
 pub mod InsertSelects
 pub mod ChangeFits
 pub mod MadeLemmas
 pub mod CreateLemmas
+pub mod AlteredLemmas
+pub mod AlteredColumns
 pub mod Gathered

@@ -100,7 +100,7 @@ swap_tables t u l d =
     by (comes_before t.name u.name) refl
 
 -- the names with one more
-taken_plus : (n : List ℕ) (t : TableSchema) (l : List TableSchema) → has_name n (table_names (placed NameOf t l)) ≡ (bytes_eq t.name n || has_name n (table_names l))
+pub taken_plus : (n : List ℕ) (t : TableSchema) (l : List TableSchema) → has_name n (table_names (placed NameOf t l)) ≡ (bytes_eq t.name n || has_name n (table_names l))
 taken_plus n t l = ap (has_name n) (map_placed NameOf (λ (x : List ℕ). x) t l) ∙ any_placed (λ (x : List ℕ). x) (λ other. bytes_eq other n) t.name (table_names l)
 
 few_enough : (m n : ℕ) → m < n → nat_le n m ≡ false

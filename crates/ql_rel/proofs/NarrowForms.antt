@@ -136,7 +136,7 @@ narrow_holds next tables indexes k t l h = record {
 
 -- the schema
 
-abbrev narrower : ℕ → TableSchema → TableSchema
+abbrev pub narrower : ℕ → TableSchema → TableSchema
 narrower k t = record { name = t.name; columns = remove t.columns k }
 
 within_narrower : (k : ℕ) (t : TableSchema) → k < length t.columns → 1 < length t.columns → IsTableWithin t → IsTableWithin (narrower k t)
@@ -156,7 +156,7 @@ within_dropped n k p s l m w =
           (λ t there x. within_narrower k t (subst (λ (o : Option TableSchema). k < length (columns_if o)) there l) (subst (λ (o : Option TableSchema). 1 < length (columns_if o)) there m) x) w.columns;
     }
 
-schema_there : (n : ℕ) (tables : List Table) (t : Table) → slice_get tables n ≡ Some t → slice_get (map table_schema tables) n ≡ Some (table_schema t)
+pub schema_there : (n : ℕ) (tables : List Table) (t : Table) → slice_get tables n ≡ Some t → slice_get (map table_schema tables) n ≡ Some (table_schema t)
 schema_there n [] t e = absurd (cc)
 schema_there zero (u ∷ tables) t e = let same : u ≡ t = cc in ap (λ (x : Table). Some (table_schema x)) same
 schema_there (suc n) (u ∷ tables) t e = schema_there n tables t e

@@ -20,11 +20,12 @@ use Rattle.ql_rel.specs.Changes.{row_of}
 use Rattle.ql_syntax.specs.Checked.{of_type, literal_of}
 use Rattle.ql_rel.specs.Courses.{course, committed}
 use Rattle.ql_rel.specs.Databases.{empty_db}
+use Rattle.ql_rel.specs.InsertEffects.{row_from, rows_added}
 use Rattle.ql_rel.specs.Events.{Event, shows, refused_in, places_of, told_by}
 use Rattle.ql_rel.specs.SelectRows.{set_rows, heading, lines_of}
 use Rattle.ql_rel.specs.Targets.{new_target, all_targets, targets_of, for_kind, counted_for}
 use Rattle.ql_rel.specs.CreatePlans.{no_parts}
-use Rattle.ql_rel.specs.StatementEffects.{statement_effect, rows_added}
+use Rattle.ql_rel.specs.StatementEffects.{statement_effect}
 use Rattle.ql_rel.specs.StatementPlans.{statement_plan}
 use Rattle.ql_rel.specs.TablePlans.{dropped_column}
 
@@ -70,8 +71,15 @@ insert_metadata = refl
 insert_nowhere : statement_effect false (s.Insert (codes "t") [] (source.Rows [])) empty_db ≡ refused_at 1 (codes "t")
 insert_nowhere = refl
 
-insert_named : statement_effect false (s.Insert (codes "t") (codes "a" ∷ []) (source.Rows [])) (with_rows_of 1 []) ≡ refused 10
+insert_named : statement_effect false (s.Insert (codes "t") (codes "a" ∷ []) (source.Rows [])) (with_rows_of 1 []) ≡ Ok ([], with_rows_of 1 [])
 insert_named = refl
+
+-- a row is put together: the value of the second column alone, and both values in the other order
+second_alone : row_from (1 ∷ []) (v.Text (codes "x") ∷ []) t_columns ≡ v.Null ∷ v.Text (codes "x") ∷ []
+second_alone = refl
+
+both_turned : row_from (1 ∷ 0 ∷ []) (v.Text (codes "x") ∷ v.Int k.Int8 (pos 1) ∷ []) t_columns ≡ one
+both_turned = refl
 
 -- a quiet CREATE TABLE looks at nothing behind a name that is there; the name itself is judged, and so is that of an index
 abbrev ix : Schema
@@ -101,6 +109,15 @@ idle_drop = refl
 
 drop_nowhere : statement_plan ix (s.DropTable false (codes "ix")) ≡ refused_at 1 (codes "ix")
 drop_nowhere = refl
+
+-- ALTER TABLE: a column more, NULL in each row, and a column less
+column_more : statement_effect false (s.AddColumn (codes "t") (column (codes "c") k.Bool)) (with_rows_of 2 (row_of 1 one ∷ []))
+    ≡ Ok ([], record { next_id = 2; tables = record { name = codes "t"; columns = t_columns ++ column (codes "c") k.Bool ∷ []; rows = row_of 1 (one ++ v.Null ∷ []) ∷ [] } ∷ []; indexes = [] })
+column_more = refl
+
+column_less : statement_effect false (s.DropColumn (codes "t") (codes "a")) (with_rows_of 2 (row_of 1 one ∷ []))
+    ≡ Ok ([], record { next_id = 2; tables = record { name = codes "t"; columns = column (codes "b") k.Text ∷ []; rows = row_of 1 (v.Text (codes "x") ∷ []) ∷ [] } ∷ []; indexes = [] })
+column_less = refl
 
 -- ALTER TABLE: the name of an index of the table; 2 before 6
 add_taken : statement_plan ix (s.AddColumn (codes "t") (column (codes "ix") k.Int8)) ≡ refused_at 4 (codes "ix")

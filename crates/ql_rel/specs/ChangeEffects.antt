@@ -1,10 +1,7 @@
 -- What UPDATE and DELETE do to the rows of a table, each row by itself.
-use Rattle.std.specs.Prelude.{ℕ, Bool, true, false, if◌then◌else◌, List, [], ◌∷◌, map, flat_map, slice_set, Option, Some, None, Ok}
+use Rattle.std.specs.Prelude.{ℕ, Bool, true, false, if◌then◌else◌, List, [], ◌∷◌, map, flat_map, slice_set, Ok}
 use Rattle.ql_value.specs.declared.value.Value.{Value}
-use Rattle.ql_value.specs.declared.value.Value.TheVariants as v
-use Rattle.ql_syntax.specs.declared.typed.Typed.{Typed}
 use Rattle.ql_syntax.specs.Answers.{Answer, then_with, all_of}
-use Rattle.ql_syntax.specs.Values.{value_at}
 use Rattle.ql_rel.specs.declared.db.Db.{Db}
 use Rattle.ql_rel.specs.declared.db.Row.{Row}
 use Rattle.ql_rel.specs.declared.plan.Plan.{Plan}
@@ -14,18 +11,8 @@ use Rattle.ql_rel.specs.Databases.{schema_of, rows_at}
 use Rattle.ql_rel.specs.NewNames.{place_named}
 use Rattle.ql_rel.specs.Refusals.{change_refusal}
 use Rattle.ql_rel.specs.Refused.{unless}
-use Rattle.ql_rel.specs.Rows.{answer_of, values_of}
+use Rattle.ql_rel.specs.Rows.{values_of, is_meant}
 use Rattle.ql_rel.specs.SelectRows.{set_row}
-
--- the value is true
-abbrev pub is_true : Value → Bool
-is_true (v.Bool b) = b
-is_true _ = false
-
--- whether WHERE means a row: without a condition it means every row, else those for which it is true
-abbrev pub is_meant : Option Typed → List Value → Answer Bool
-is_meant None row = Ok true
-is_meant (Some filter) row = then_with (answer_of (value_at row filter)) (λ x. Ok (is_true x))
 
 -- values with new ones at some places, from left to right
 abbrev pub with_new : List ℕ → List Value → List Value → List Value

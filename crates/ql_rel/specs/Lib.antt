@@ -19,13 +19,14 @@ pub mod NewNames
 pub mod CreatePlans
 pub mod Targets
 pub mod InsertPlans
-pub mod InsertTypes
 pub mod TablePlans
 pub mod ChangePlans
 pub mod StatementPlans
+pub mod RowLists
 pub mod SelectRows
 pub mod Refused
 pub mod ChangeEffects
+pub mod InsertEffects
 pub mod StatementEffects
 pub mod Events
 pub mod Courses

@@ -3,6 +3,7 @@ use Rattle.std.specs.Prelude.{ℕ, suc, if◌then◌else◌, List, [], ◌∷◌
 use Rattle.std.specs.Str.{bytes_eq}
 use Rattle.ql_value.specs.declared.refusal.TheConstants.{NO_TABLE, EXISTS}
 use Rattle.ql_value.specs.declared.refusal.TheConstants.{RESERVED}
+use Rattle.ql_syntax.specs.declared.statement.ColumnDef.{ColumnDef}
 use Rattle.ql_rel.specs.declared.schema.Schema.{Schema}
 use Rattle.ql_rel.specs.declared.schema.TableSchema.{TableSchema}
 use Rattle.ql_rel.specs.Accepted.{is_reserved}
@@ -35,3 +36,8 @@ known_table name schema = if is_metadata name then refused_at RESERVED name else
 abbrev pub place_named : List ℕ → List TableSchema → ℕ
 place_named name [] = 0
 place_named name (table ∷ tables) = if bytes_eq table.name name then 0 else suc (place_named name tables)
+
+-- the place of the column with a name, that behind the last one where there is none
+abbrev pub column_place : List ℕ → List ColumnDef → ℕ
+column_place name [] = 0
+column_place name (c ∷ columns) = if bytes_eq c.name name then 0 else suc (column_place name columns)

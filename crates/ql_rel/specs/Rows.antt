@@ -1,11 +1,12 @@
 -- The values of expressions at a row, and a row as it is shown.
-use Rattle.std.specs.Prelude.{ℕ, List, [], ◌∷◌, ◌++◌, codes, flat_map, map, Ok}
+use Rattle.std.specs.Prelude.{ℕ, Bool, true, false, List, [], ◌∷◌, ◌++◌, codes, flat_map, map, Option, Some, None, Ok}
 use Rattle.ql_value.specs.Print.{printed}
 use Rattle.ql_value.specs.declared.refusal.TheConstants.{LATER, DIVIDE, RANGE, NEGATIVE_COUNT}
 use Rattle.ql_value.specs.declared.value.Value.{Value}
+use Rattle.ql_value.specs.declared.value.Value.TheVariants as v
 use Rattle.ql_syntax.specs.Values.{Outcome, gives, refuses, means_nothing, divide, range, negative_count, value_at}
 use Rattle.ql_syntax.specs.declared.typed.Typed.{Typed}
-use Rattle.ql_syntax.specs.Answers.{Answer, refused, all_of}
+use Rattle.ql_syntax.specs.Answers.{Answer, refused, then_with, all_of}
 
 -- the values of a row but the first, each behind a comma and a space
 abbrev pub more_values : List Value → List ℕ
@@ -31,3 +32,13 @@ answer_of means_nothing = refused LATER
 -- the values of expressions at a row, or the first refusal, from left to right
 abbrev pub values_of : List Value → List Typed → Answer (List Value)
 values_of row exprs = all_of (map (λ e. answer_of (value_at row e)) exprs)
+
+-- the value is true
+abbrev pub is_true : Value → Bool
+is_true (v.Bool b) = b
+is_true _ = false
+
+-- whether WHERE means a row: without a condition it means every row, else those for which it is true
+abbrev pub is_meant : Option Typed → List Value → Answer Bool
+is_meant None row = Ok true
+is_meant (Some filter) row = then_with (answer_of (value_at row filter)) (λ x. Ok (is_true x))

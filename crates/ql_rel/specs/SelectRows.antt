@@ -1,6 +1,6 @@
 -- The rows that a SELECT shows, by its plan.
-use Rattle.std.specs.Prelude.{ℕ, pos, ◌==◌, Bool, true, false, not, ◌&&◌, is_none, if◌then◌else◌, List, [], ◌∷◌, ◌++◌, length, map, flat_map, Ok}
-use Rattle.ql_value.specs.declared.refusal.TheConstants.{LATER}
+use Rattle.std.specs.Prelude.{ℕ, ℤ, pos, negsuc, ◌==◌, Bool, true, false, not, ◌&&◌, if◌then◌else◌, List, [], ◌∷◌, ◌++◌, length, map, flat_map, Option, Some, None, Ok}
+use Rattle.ql_value.specs.declared.refusal.TheConstants.{LATER, NEGATIVE_COUNT}
 use Rattle.ql_value.specs.declared.value.Kind.TheVariants as k
 use Rattle.ql_value.specs.declared.value.Value.{Value}
 use Rattle.ql_value.specs.declared.value.Value.TheVariants as v
@@ -16,10 +16,13 @@ use Rattle.ql_syntax.specs.declared.typed.Typed.{Typed}
 use Rattle.ql_rel.specs.declared.db.Db.{Db}
 use Rattle.ql_rel.specs.declared.db.Row.{Row}
 use Rattle.ql_rel.specs.declared.plan.Plan.{Plan}
+use Rattle.ql_rel.specs.declared.select.ResultRow.{ResultRow}
 use Rattle.ql_syntax.specs.Answers.{Answer, refused, then_with, all_of}
 use Rattle.ql_rel.specs.Databases.{schema_of, rows_at}
 use Rattle.ql_rel.specs.NewNames.{place_named}
-use Rattle.ql_rel.specs.Rows.{row_line, values_of}
+use Rattle.ql_rel.specs.RowLists.{window}
+use Rattle.ql_rel.specs.Rows.{row_line, answer_of, values_of, is_meant}
+use Rattle.ql_syntax.specs.Values.{value_at}
 
 -- a row of a table as expressions see it: its id, then its values
 abbrev pub set_row : Row → List Value
@@ -40,19 +43,56 @@ from_rows db [] = Ok ([] ∷ [])
 from_rows db (set ∷ []) = rows_of_source db (out-SetSource (out-FromSet set).source)
 from_rows db (set ∷ other ∷ sets) = refused LATER
 
--- every row gives one line, in its place: there is neither DISTINCT nor a filter, grouping, a key, a limit or an offset
-abbrev pub is_row_by_row : Bool → Plan → Bool
-is_row_by_row distinct p =
-    not distinct && (is_none p.filter && (not p.grouped && (length p.keys == 0 && (is_none p.limit && is_none p.offset))))
+-- a count as a number that is not negative, else 22
+abbrev pub count : ℤ → Answer (Option ℕ)
+count (pos n) = Ok (Some n)
+count (negsuc n) = refused NEGATIVE_COUNT
+
+-- the count that a value is; NULL is none
+abbrev pub count_in : Value → Answer (Option ℕ)
+count_in (v.Int kind z) = count z
+count_in _ = Ok None
+
+-- the count of a LIMIT or an OFFSET, which see no row; none where it is not written
+abbrev pub count_of : Option Typed → Answer (Option ℕ)
+count_of None = Ok None
+count_of (Some e) = then_with (answer_of (value_at [] e)) count_in
+
+-- the rows that a condition means, or the first refusal
+abbrev pub filtered : Option Typed → List (List Value) → Answer (List (List Value))
+filtered filter [] = Ok []
+filtered filter (row ∷ rows) =
+    then_with (is_meant filter row) (λ meant. then_with (filtered filter rows) (λ more. Ok (if meant then row ∷ more else more)))
+
+-- the fields at a row
+abbrev pub result_at : List Typed → List Value → Answer ResultRow
+result_at fields row = then_with (values_of row fields) (λ values. Ok (record { source = row; values = values }))
 
 -- the fields of each row, or the first refusal, row by row and in each from left to right
-abbrev pub results : List Typed → List (List Value) → Answer (List (List Value))
-results fields rows = all_of (map (λ row. values_of row fields) rows)
+abbrev pub results : List Typed → List (List Value) → Answer (List ResultRow)
+results fields rows = all_of (map (result_at fields) rows)
 
--- the rows that a SELECT shows; what is more than row by row is not built yet
+-- the rows of the result; those of groups are not built yet
+abbrev pub results_of : Plan → List (List Value) → Answer (List ResultRow)
+results_of p rows = if p.grouped then refused LATER else results p.fields rows
+
+-- the rows are shown in the order in which they come, and each of them: there is neither DISTINCT nor ORDER BY
+abbrev pub is_in_turn : Bool → Plan → Bool
+is_in_turn distinct p = not distinct && length p.keys == 0
+
+-- the rows that are shown of those of a FROM: of those that WHERE means the fields, and of these a part
+abbrev pub shown_of : Option ℕ → Option ℕ → Plan → List (List Value) → Answer (List (List Value))
+shown_of limit offset p rows =
+    then_with (filtered p.filter rows) (λ meant.
+    then_with (results_of p meant) (λ shown. Ok (window offset limit (map (λ (x : ResultRow). x.values) shown))))
+
+-- the rows that a SELECT shows: LIMIT, OFFSET, FROM, then its rows; DISTINCT and ORDER BY are not built yet
 abbrev pub shown_rows : Db → Select → Plan → Answer (List (List Value))
 shown_rows db select p =
-    if is_row_by_row (out-Select select).distinct p then then_with (from_rows db (out-Select select).sets) (results p.fields) else refused LATER
+    if is_in_turn (out-Select select).distinct p then
+    then_with (count_of p.limit) (λ limit.
+    then_with (count_of p.offset) (λ offset.
+    then_with (from_rows db (out-Select select).sets) (shown_of limit offset p))) else refused LATER
 
 -- the names of the fields as a row of strings, where they are asked for
 abbrev pub heading : Bool → List (List ℕ) → List ℕ

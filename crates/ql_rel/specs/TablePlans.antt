@@ -1,8 +1,6 @@
 -- The plans of statements that make, change, empty and drop tables, which have no parts; or their first refusals.
-use Rattle.std.specs.Prelude.{ℕ, Bool, false, not, ◌&&◌, nat_lt, is_none, if◌then◌else◌, List, length, Ok}
-use Rattle.std.specs.List.{list_any}
-use Rattle.std.specs.Str.{bytes_eq}
-use Rattle.ql_value.specs.declared.refusal.TheConstants.{NO_COLUMN, EXISTS, COUNT, LATER}
+use Rattle.std.specs.Prelude.{ℕ, Bool, false, not, ◌&&◌, nat_lt, if◌then◌else◌, List, length, Ok}
+use Rattle.ql_value.specs.declared.refusal.TheConstants.{NO_COLUMN, EXISTS, COUNT}
 use Rattle.ql_value.specs.declared.refusal.TheConstants.{RESERVED}
 use Rattle.ql_syntax.specs.declared.statement.ColumnDef.{ColumnDef}
 use Rattle.ql_syntax.specs.declared.statement.Statement.{Statement}
@@ -13,6 +11,7 @@ use Rattle.ql_rel.specs.declared.schema.Index.{Index}
 use Rattle.ql_rel.specs.declared.schema.Schema.{Schema}
 use Rattle.ql_rel.specs.declared.schema.TableSchema.{TableSchema}
 use Rattle.ql_rel.specs.CreatePlans.{no_parts, without_conditions, create_table_plan}
+use Rattle.ql_rel.specs.InsertPlans.{without_checks}
 use Rattle.ql_rel.specs.Names.{has_name, table_names, column_names, is_column_taken}
 use Rattle.ql_rel.specs.NewNames.{new_name, known_table}
 use Rattle.ql_rel.specs.Plans.{is_metadata}
@@ -49,9 +48,11 @@ free_added table indexes name = if is_column_taken table.name name table.columns
 abbrev pub added_column : TableSchema → List Index → ColumnDef → Answer (Unit {0})
 added_column table indexes c = then_with (new_name c.name) (λ _. then_with (free_added table indexes c.name) (λ _. without_conditions c))
 
--- the plan of ALTER TABLE ADD: the table, 9 and then 1, and then the column
+-- the plan of ALTER TABLE ADD: the table, 9 and then 1, the column, and then what is not built yet
 abbrev pub add_column_plan : Schema → List ℕ → ColumnDef → Answer Plan
-add_column_plan schema name c = then_with (known_table name schema) (λ table. then_with (added_column table schema.indexes c) (λ _. Ok no_parts))
+add_column_plan schema name c =
+    then_with (known_table name schema) (λ table.
+    then_with (added_column table schema.indexes c) (λ _. then_with (without_checks schema table.columns) (λ _. Ok no_parts)))
 
 -- a column that is there, and else 2
 abbrev pub column_there : List ℕ → List ColumnDef → Answer (Unit {0})
@@ -61,19 +62,12 @@ column_there name columns = if has_name name (column_names columns) then Ok tt e
 abbrev pub several_columns : List ColumnDef → Answer (Unit {0})
 several_columns columns = if nat_lt 1 (length columns) then Ok tt else refused COUNT
 
--- a rule of another column, which would be checked again
-abbrev pub is_rule_beside : List ℕ → ColumnDef → Bool
-is_rule_beside name c = not (bytes_eq c.name name) && not (is_none c.rule)
-
--- rules are not built yet
-abbrev pub without_rules : List ℕ → List ColumnDef → Answer (Unit {0})
-without_rules name columns = if list_any (is_rule_beside name) columns then refused LATER else Ok tt
-
--- a column that is dropped: 2, then 6, and then the rules that are left
+-- a column that is dropped: 2, then 6
 abbrev pub dropped_column : List ℕ → List ColumnDef → Answer (Unit {0})
-dropped_column name columns =
-    then_with (column_there name columns) (λ _. then_with (several_columns columns) (λ _. without_rules name columns))
+dropped_column name columns = then_with (column_there name columns) (λ _. several_columns columns)
 
--- the plan of ALTER TABLE DROP COLUMN: the table, 9 and then 1, and then the column
+-- the plan of ALTER TABLE DROP COLUMN: the table, 9 and then 1, the column, and then what is not built yet
 abbrev pub drop_column_plan : Schema → List ℕ → List ℕ → Answer Plan
-drop_column_plan schema name column = then_with (known_table name schema) (λ table. then_with (dropped_column column table.columns) (λ _. Ok no_parts))
+drop_column_plan schema name column =
+    then_with (known_table name schema) (λ table.
+    then_with (dropped_column column table.columns) (λ _. then_with (without_checks schema table.columns) (λ _. Ok no_parts)))

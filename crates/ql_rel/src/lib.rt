@@ -33,5 +33,5 @@ pub use schema::{Index, Indexes, Schema, TableSchema, TableSchemas};
 pub use schema_copy::{
     add_columns, add_tables, copy_column, copy_index, copy_name, copy_schema, copy_table,
 };
-pub use select::{Limits, Output, ResultField, ResultFields, Selected, Source};
+pub use select::{Limits, Output, ResultField, ResultFields, ResultRow, Selected, Source};
 pub use text_limit::is_past_text;

@@ -7,7 +7,7 @@ pub fn event_laws()
     ensures { EventLaws }
 {}
 
-/// What the plans of INSERT and CREATE TABLE promise. The call does nothing.
+/// What the plan of CREATE TABLE promises. The call does nothing.
 pub fn plan_laws()
     ensures { PlanLaws }
 {}

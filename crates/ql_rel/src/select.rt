@@ -2,11 +2,12 @@
 
 use ql_edge::{Bytes, Items};
 use ql_syntax::{Checked, Scope, Typed, Typeds};
+use ql_value::Values;
 
 /// What stands before the fields of a SELECT.
 #[derive(Drop)]
-pub struct Source {
-    pub row: Scope,
+pub struct Source<'a> {
+    pub row: Scope<'a>,
     /// The condition of WHERE.
     pub filter: Option<Typed>,
     /// The expressions of GROUP BY.
@@ -49,4 +50,11 @@ pub struct Selected {
     pub groups: Typeds,
     pub output: Output,
     pub limits: Limits,
+}
+
+/// A row of the result of a SELECT: the row of the FROM that it is of, and the values of its fields.
+#[derive(Debug, Drop)]
+pub struct ResultRow {
+    pub source: Values,
+    pub values: Values,
 }

@@ -19,6 +19,7 @@ use Rattle.ql_syntax.specs.declared.statement.Statement.{Statement}
 use Rattle.ql_syntax.specs.Lexemes.{lexemes}
 use Rattle.ql_shell.specs.Comes.{Comes, too_long, bad_byte, bad_literal, unclosed, unexpected, too_nested, read}
 use Rattle.ql_shell.specs.Comes.{longest_script}
+use Rattle.ql_shell.specs.declared.options.Options.{Options}
 use Rattle.ql_shell.specs.declared.status.ScriptFault.{ScriptFault}
 use Rattle.ql_shell.specs.declared.words.Command.{Command}
 use Rattle.ql_shell.specs.declared.words.Command.TheVariants as command
@@ -64,8 +65,8 @@ something source = by (leb_tells (length source) longest_script)
     by (inr h) = (_, too_long h.1)
 
 -- words, and a script that is told, mean something
-pub meant : (asked : Command) (input : Option (List ℕ)) → TellsScript asked input → (answer : Answer) × Means asked input answer
-meant (command.Usage word) input tells = (_, usage refl refl)
-meant (command.Text text) input tells = let o = something text in (_, script refl o.1 refl)
-meant command.Input (Some source) tells = let o = something source in (_, script refl o.1 refl)
-meant command.Input None tells = absurd (false≢true tells)
+pub meant : (options : Options) (asked : Command) (input : Option (List ℕ)) → TellsScript asked input → (answer : Answer) × Means options asked input answer
+meant options (command.Usage word) input tells = (_, usage refl refl)
+meant options (command.Text text) input tells = let o = something text in (_, script refl o.1 refl)
+meant options command.Input (Some source) tells = let o = something source in (_, script refl o.1 refl)
+meant options command.Input None tells = absurd (false≢true tells)

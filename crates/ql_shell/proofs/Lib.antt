@@ -8,3 +8,4 @@ pub mod Pieces
 pub mod Stepping
 pub mod Taking
 pub mod Warning
+pub mod Walks

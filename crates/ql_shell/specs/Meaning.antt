@@ -5,6 +5,7 @@ use Rattle.ql_shell.specs.Comes.{Comes}
 use Rattle.ql_rel.specs.Courses.{course}
 use Rattle.ql_rel.specs.Databases.{empty_db}
 use Rattle.ql_rel.specs.Events.{Closing, completed, refused_in, Course, shown_text}
+use Rattle.ql_shell.specs.declared.options.Options.{Options}
 use Rattle.ql_shell.specs.declared.status.ScriptFault.{ScriptFault}
 use Rattle.ql_shell.specs.declared.status.Status.{Status}
 use Rattle.ql_shell.specs.declared.status.Status.TheVariants.{Done, Script, Refused, Usage}
@@ -25,14 +26,14 @@ status_after (refused_in number refusal) = Refused number refusal
 abbrev pub answered : Course → Answer
 answered c = record { text = shown_text c.events; status = status_after c.closing }
 
--- what the statements of a script mean: from no tables on, without the names of fields and without a line for each commit
-abbrev pub course_of : List Statement → Course
-course_of ss = course false false 1 ss empty_db
+-- what the statements of a script mean: from no tables on, with the names of fields where the options ask for them, and without a line for each commit
+abbrev pub course_of : Options → List Statement → Course
+course_of options ss = course options.with_names false 1 ss empty_db
 
 -- what a script answers by what it comes to: its statements from no tables, or its fault
-abbrev pub answer_of : Result (List Statement) ScriptFault → Answer
-answer_of (Ok ss) = answered (course_of ss)
-answer_of (Err fault) = record { text = []; status = Script fault }
+abbrev pub answer_of : Options → Result (List Statement) ScriptFault → Answer
+answer_of options (Ok ss) = answered (course_of options ss)
+answer_of options (Err fault) = record { text = []; status = Script fault }
 
 -- the script that is carried out: the words' own, or what standard input has, where that is told
 abbrev pub told_script : Command → Option (List ℕ) → Option (List ℕ)
@@ -40,8 +41,8 @@ told_script (command.Usage word) input = None
 told_script (command.Text text) input = Some text
 told_script command.Input input = input
 
--- what the words of the command line ask for and what standard input has mean together
-pub data Means (asked : Command) (input : Option (List ℕ)) (answer : Answer) : Type 0 where
-  usage : {word : ℕ} → asked ≡ command.Usage word → answer ≡ record { text = []; status = Usage word } → Means asked input answer
+-- what the words of the command line ask for, by options and a command, and what standard input has mean together
+pub data Means (options : Options) (asked : Command) (input : Option (List ℕ)) (answer : Answer) : Type 0 where
+  usage : {word : ℕ} → asked ≡ command.Usage word → answer ≡ record { text = []; status = Usage word } → Means options asked input answer
   script : {source : List ℕ} {outcome : Result (List Statement) ScriptFault} → told_script asked input ≡ Some source → Comes source outcome
-      → answer ≡ answer_of outcome → Means asked input answer
+      → answer ≡ answer_of options outcome → Means options asked input answer

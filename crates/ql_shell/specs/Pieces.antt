@@ -1,5 +1,5 @@
 -- Text that is shown, and statements that are carried out one at a time.
-use Rattle.std.specs.Prelude.{◌≡◌, ℕ, false, List, Option, Some}
+use Rattle.std.specs.Prelude.{◌≡◌, ℕ, Bool, false, List, Option, Some}
 use Rattle.ql_edge.specs.Told.{Told, with_shown}
 use Rattle.ql_syntax.specs.declared.statement.Statement.{Statement}
 use Rattle.ql_rel.specs.declared.db.Db.{Db}
@@ -18,7 +18,7 @@ pub record RunsOn (all : Course) (before now : Told) (left : Course) : Type 0 wh
   pub whole : all ≡ preceded_by done left
 
 -- what is left is what these statements mean from the database that is held, the first of them being of this number
-pub record RunsFrom (all : Course) (before now : Told) (number : ℕ) (items : List Statement) (held : Option Db) : Type 0 where
+pub record RunsFrom (names : Bool) (all : Course) (before now : Told) (number : ℕ) (items : List Statement) (held : Option Db) : Type 0 where
   pub db : Db
   pub is : held ≡ Some db
-  pub runs : RunsOn all before now (course false false number items db)
+  pub runs : RunsOn all before now (course names false number items db)

@@ -3,6 +3,7 @@
 
 mod fault;
 mod line;
+mod options;
 mod parsing;
 mod reading;
 mod script_run;

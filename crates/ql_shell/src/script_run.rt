@@ -13,7 +13,8 @@ ghost use Rattle.ql_shell.specs.Meaning.{Answer, answer_of, answered, course_of,
 ghost use Rattle.ql_shell.specs.Pieces.{ShowsText};
 ghost use Rattle.ql_shell.specs.Run.{IsFinal, Gives, Warns, IsFrontShown, IsAddedTo, IsShown, IsRefusedWhole, EndsEarly, EndsScript, EndsStatements, IsScript, TellsScript, Takes, TakesAll, TakesAtMost};
 ghost use Rattle.ql_shell.specs.Steps.{EndsBy, MayEnd, MayStop, StopsBy};
-ghost use Rattle.ql_shell.specs.Words.{command_of};
+ghost use Rattle.ql_shell.specs.Words.{command_of, options_of};
+ghost use Rattle.ql_shell.specs.declared.options.Options.{Options};
 ghost use Rattle.ql_shell.specs.declared.status.ScriptFault.{ScriptFault};
 ghost use Rattle.ql_shell.specs.declared.status.ScriptFault.TheVariants as fault;
 ghost use Rattle.ql_shell.specs.declared.status.Status.TheVariants as ended;
@@ -21,6 +22,7 @@ ghost use Rattle.ql_shell.specs.declared.words.Command.TheVariants as asked;
 
 use crate::fault::StepFault;
 use crate::line::warn;
+use crate::options::Options;
 use crate::parsing::read_statements;
 use crate::reading::read_script;
 use crate::status::{ScriptFault, Status};
@@ -79,12 +81,13 @@ fn carry_on<M: Shows>(
     rel: &mut MemRel,
     machine: &mut M,
     statements: Statements,
+    with_names: bool,
 ) -> Status
     requires ready { IsTrue (⟦<MemRel as Rel>⟧.is_ready rel.old) }
     requires level { 0 < length (⟦<MemRel as Rel>⟧.saved rel.old) }
     requires read { All IsReadBack statements }
     ensures gives { IfSome (⟦<MemRel as Rel>⟧.db rel.old) (λ d.
-        Gives (answered (course false false 1 statements d)) result (M.told machine.old)
+        Gives (answered (course with_names false 1 statements d)) result (M.told machine.old)
         (M.told machine.new)) }
     ensures ends { EndsStatements result }
     ensures frame { Keeps M.left M.fixed machine.old machine.new }
@@ -94,7 +97,7 @@ fn carry_on<M: Shows>(
     let mut number = 0;
     'statements: for statement in statements.into_vec() {
         number += 1;
-        let done = step(alloc, rel, machine, &statement);
+        let done = step(alloc, rel, machine, &statement, with_names);
         drop(statement);
         match done {
             Ok(()) => {}
@@ -108,9 +111,14 @@ fn carry_on<M: Shows>(
 }
 
 /// Carries out statements in turn, from no tables, up to the first that is refused.
-fn carry_out<M: Shows>(alloc: Global, machine: &mut M, statements: Statements) -> Status
+fn carry_out<M: Shows>(
+    alloc: Global,
+    options: Options,
+    machine: &mut M,
+    statements: Statements,
+) -> Status
     requires { All IsReadBack statements }
-    ensures gives { Gives (answered (course_of statements)) result (M.told machine.old)
+    ensures gives { Gives (answered (course_of options statements)) result (M.told machine.old)
         (M.told machine.new) }
     ensures warned { warned_of (M.told machine.new) ≡ warned_of (M.told machine.old) }
     ensures ends { EndsStatements result }
@@ -119,18 +127,23 @@ fn carry_out<M: Shows>(alloc: Global, machine: &mut M, statements: Statements) -
 {
     let mut rel = MemRel::new(alloc);
     match rel.begin() {
-        Ok(()) => carry_on(alloc, &mut rel, machine, statements),
+        Ok(()) => carry_on(alloc, &mut rel, machine, statements, options.with_names),
         Err(_) => Status::NoMemory,
     }
 }
 
 /// Carries out a script that is not too long. Its bytes are let go before its first statement is carried out.
-fn answer_script<M: Shows>(alloc: Global, machine: &mut M, source: Bytes) -> Status
+fn answer_script<M: Shows>(
+    alloc: Global,
+    options: Options,
+    machine: &mut M,
+    source: Bytes,
+) -> Status
     requires { length source ≤ longest_script }
     ensures gives { (outcome : Result (List Statement) ScriptFault) → Comes source outcome
-        → Gives (answer_of outcome) result (M.told machine.old) (M.told machine.new) }
+        → Gives (answer_of options outcome) result (M.told machine.old) (M.told machine.new) }
     ensures means { IsFinal result → (outcome : Result (List Statement) ScriptFault)
-        × Comes source outcome × (result ≡ (answer_of outcome).status) }
+        × Comes source outcome × (result ≡ (answer_of options outcome).status) }
     ensures silent { IsRefusedWhole result → M.told machine.new ≡ M.told machine.old }
     ensures shows { ShowsText (M.told machine.old) (M.told machine.new) }
     ensures warned { warned_of (M.told machine.new) ≡ warned_of (M.told machine.old) }
@@ -141,7 +154,7 @@ fn answer_script<M: Shows>(alloc: Global, machine: &mut M, source: Bytes) -> Sta
     let read = read_statements(alloc, source.as_slice());
     drop(source);
     match read {
-        Ok(statements) => carry_out(alloc, machine, statements),
+        Ok(statements) => carry_out(alloc, options, machine, statements),
         Err(status) => status,
     }
 }
@@ -182,11 +195,17 @@ fn take_script<M: Machine>(
 }
 
 /// Does what the words ask for.
-fn answer_command<M: Machine>(alloc: Global, command: Command, machine: &mut M) -> Status
-    ensures gives { (answer : Answer) → Means command (M.left machine.old) answer
+fn answer_command<M: Machine>(
+    alloc: Global,
+    options: Options,
+    command: Command,
+    machine: &mut M,
+) -> Status
+    ensures gives { (answer : Answer) → Means options command (M.left machine.old) answer
         → Gives answer result (M.told machine.old) (M.told machine.new) }
     ensures means { TellsScript command (M.left machine.old) → IsFinal result
-        → (answer : Answer) × Means command (M.left machine.old) answer × (result ≡ answer.status) }
+        → (answer : Answer) × Means options command (M.left machine.old) answer
+        × (result ≡ answer.status) }
     ensures usage { (word : ℕ) → command ≡ asked.Usage word → result ≡ ended.Usage word }
     ensures usage_only { (word : ℕ) → result ≡ ended.Usage word → command ≡ asked.Usage word }
     ensures silent { IsRefusedWhole result → M.told machine.new ≡ M.told machine.old }
@@ -198,20 +217,21 @@ fn answer_command<M: Machine>(alloc: Global, command: Command, machine: &mut M) 
     ensures cause { IsCausedStatus result (M.faults machine.old) (M.faults machine.new) }
 {
     match take_script(alloc, command, machine) {
-        Ok(source) => answer_script(alloc, machine, source),
+        Ok(source) => answer_script(alloc, options, machine, source),
         Err(status) => status,
     }
 }
 
 /// Reads the words, and does what they ask for.
 fn answer<M: Machine>(alloc: Global, words: &[String], machine: &mut M) -> Status
-    ensures gives { (answer : Answer) → Means (command_of (map string_bytes words.now))
-        (M.left machine.old) answer → Gives answer result (M.told machine.old)
-        (M.told machine.new) }
+    ensures gives { (answer : Answer) → Means (options_of (map string_bytes words.now))
+        (command_of (map string_bytes words.now)) (M.left machine.old) answer
+        → Gives answer result (M.told machine.old) (M.told machine.new) }
     ensures means { TellsScript (command_of (map string_bytes words.now)) (M.left machine.old)
         → IsFinal result
-        → (answer : Answer) × Means (command_of (map string_bytes words.now))
-        (M.left machine.old) answer × (result ≡ answer.status) }
+        → (answer : Answer) × Means (options_of (map string_bytes words.now))
+        (command_of (map string_bytes words.now)) (M.left machine.old) answer
+        × (result ≡ answer.status) }
     ensures usage { (word : ℕ) → command_of (map string_bytes words.now) ≡ asked.Usage word
         → (result ≡ ended.Usage word) ⊎ (result ≡ ended.NoMemory) }
     ensures usage_only { (word : ℕ) → result ≡ ended.Usage word
@@ -226,7 +246,7 @@ fn answer<M: Machine>(alloc: Global, words: &[String], machine: &mut M) -> Statu
     ensures cause { IsCausedStatus result (M.faults machine.old) (M.faults machine.new) }
 {
     match read_words(alloc, words) {
-        Ok(command) => answer_command(alloc, command, machine),
+        Ok(asked) => answer_command(alloc, asked.options, asked.command, machine),
         Err(_) => Status::NoMemory,
     }
 }
@@ -237,22 +257,23 @@ fn answer<M: Machine>(alloc: Global, words: &[String], machine: &mut M) -> Statu
 /// The machine comes back with all that happened to it.
 pub fn run<M: Machine>(alloc: Global, words: &Vec<String>, machine: M) -> (M, Status)
     // What is shown is a front of the text that the words and the script mean.
-    ensures shown { (answer : Answer) → Means (command_of (map string_bytes words.now.items))
-        (M.left machine) answer
+    ensures shown { (answer : Answer) → Means (options_of (map string_bytes words.now.items))
+        (command_of (map string_bytes words.now.items)) (M.left machine) answer
         → IsFrontShown answer.text (shown_of (M.told machine)) (shown_of (M.told result.0)) }
 
     // Words and a script that is told always mean something.
-    ensures meant { (command : Command) (input : Option (List ℕ)) → TellsScript command input
-        → (answer : Answer) × Means command input answer }
+    ensures meant { (options : Options) (command : Command) (input : Option (List ℕ))
+        → TellsScript command input → (answer : Answer) × Means options command input answer }
 
     // Without a fault and want of memory, all of the text is shown, and the status is the script's own.
     ensures whole { TellsScript (command_of (map string_bytes words.now.items)) (M.left machine)
         → IsFinal result.1
-        → (answer : Answer) × Means (command_of (map string_bytes words.now.items))
-        (M.left machine) answer × (result.1 ≡ answer.status)
+        → (answer : Answer) × Means (options_of (map string_bytes words.now.items))
+        (command_of (map string_bytes words.now.items)) (M.left machine) answer
+        × (result.1 ≡ answer.status)
         × IsShown answer.text (shown_of (M.told machine)) (shown_of (M.told result.0)) }
-    ensures answered { (answer : Answer) → Means (command_of (map string_bytes words.now.items))
-        (M.left machine) answer
+    ensures answered { (answer : Answer) → Means (options_of (map string_bytes words.now.items))
+        (command_of (map string_bytes words.now.items)) (M.left machine) answer
         → (result.1 ≡ answer.status) ⊎ (result.1 ≡ ended.Fault) ⊎ (result.1 ≡ ended.NoMemory) }
 
     // The rest holds of every machine, whatever it tells.

@@ -1,5 +1,5 @@
 //! One statement, carried out.
-ghost use Rattle.std.specs.Prelude.{◌≡◌, ℕ, ◌<◌, IsTrue, false, length, IfSome, OnOk};
+ghost use Rattle.std.specs.Prelude.{◌≡◌, ℕ, ◌<◌, IsTrue, length, IfSome, OnOk};
 ghost use Rattle.ql_edge.specs.Frame.{Keeps};
 ghost use Rattle.ql_syntax.specs.ReadsBack.{IsReadBack};
 ghost use Rattle.ql_rel.specs.StatementEffects.{statement_effect};
@@ -22,12 +22,13 @@ pub fn step<M: Shows>(
     rel: &mut MemRel,
     machine: &mut M,
     statement: &Statement,
+    with_names: bool,
 ) -> Result<(), StepFault>
     requires ready { IsTrue (⟦<MemRel as Rel>⟧.is_ready rel.old) }
     requires level { 0 < length (⟦<MemRel as Rel>⟧.saved rel.old) }
     requires read { IsReadBack statement.now }
     ensures done { IfSome (⟦<MemRel as Rel>⟧.db rel.old) (λ d.
-        Steps (statement_effect false statement.now d) result (M.told machine.old)
+        Steps (statement_effect with_names statement.now d) result (M.told machine.old)
         (M.told machine.new) (⟦<MemRel as Rel>⟧.db rel.new)) }
     ensures ready { OnOk result (⟦<MemRel as Rel>⟧.is_ready rel.new
         ≡ ⟦<MemRel as Rel>⟧.is_ready rel.old) }
@@ -36,7 +37,7 @@ pub fn step<M: Shows>(
     ensures cause { IsCausedStep result (M.faults machine.old) (M.faults machine.new) }
 {
     let mut text = Bytes::new(alloc);
-    exec(alloc, rel, statement, false, &mut text)?;
+    exec(alloc, rel, statement, with_names, &mut text)?;
     show_all(machine, text.as_slice())?;
     Ok(())
 }

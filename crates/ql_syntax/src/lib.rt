@@ -12,7 +12,7 @@ mod typing;
 
 pub use checked::{Checked, CheckedList, Literal};
 pub use copy::copy_expr;
-pub use scope::{RowPlace, Scope, Slot, Slots};
+pub use scope::{NameRef, RowPlace, Scope, Slot, Slots};
 pub use statement::{
     Assign, Assigns, ColumnDef, ColumnDefs, ExprRows, Item, RowSource, Statement, Statements,
 };

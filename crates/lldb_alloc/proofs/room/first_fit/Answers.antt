@@ -6,6 +6,7 @@ use Rattle.lldb_alloc.specs.Room.{Walks}
 use Rattle.lldb_alloc.specs.declared.links.FreeBlock.{FreeBlock}
 use Rattle.lldb_alloc.proofs.Uses.{by_error}
 use Rattle.lldb_alloc.proofs.Lists.{refuses_more}
+use Rattle.lldb_alloc.proofs.Stays.{stops_then}
 use Rattle.lldb_alloc.proofs.Walked.{walk_starts, walk_ends, walk_sane, walk_finds, walk_passes, walk_over}
 use Rattle.lldb_alloc.proofs.room.first_fit.Goals as goal
 
@@ -17,6 +18,7 @@ walk-init g c =
       left = omega arith;
       content = c.in_ok-here.ensures.content;
       frame = c.in_ok-here.ensures.frame;
+      stops = c.in_ok-here.ensures.stops;
       faults = c.in_ok-here.ensures.cause;
       walks = subst (λ (k : ℕ). IfSome told (Walks c.args.class c.args.wanted k c.in_ok-here.here)) none (walk_starts told c.args.class c.args.wanted c.in_ok-here.here c.requires.class c.in_ok-here.ensures.list);
     }
@@ -58,6 +60,7 @@ walk-preserved g c =
         left = c.in_ok-free.ensures.frame.left ∙ c.walk.invariant.frame.left;
         fixed = c.in_ok-free.ensures.frame.fixed ∙ c.walk.invariant.frame.fixed;
       };
+      stops = stops_then c.walk.invariant.stops c.in_ok-free.ensures.stops;
       faults = c.in_ok-free.ensures.cause ∙ c.walk.invariant.faults;
       walks = subst (λ (k : ℕ). IfSome told (Walks c.args.class c.args.wanted k c.in_ok-free.free.next)) step (walk_passes told c.args.class c.args.wanted (c.size-most.result / 16 + 1 - c.walk.left) c.walk.here c.in_ok-free.free c.if-here-eq0.false low has c.walk.invariant.walks);
     }

@@ -3,7 +3,7 @@ use Rattle.lldb_btree.specs.declared.set.Changed.{Changed}
 use Rattle.lldb_btree.specs.declared.store.Stored.{Stored}
 use Rattle.lldb_btree.specs.Changes.{CanStore}
 use Rattle.lldb_btree.specs.Splicing.{IsFullFor}
-use Rattle.lldb_btree.proofs.Below.{NoEdit, WayRead, AllGo, BelowSet, leaf_ended, inner_ended, headless, too_many, leaf_edited, leaf_refused, wayless, goes, below_refused, below_reads, store_refused, inner_edited}
+use Rattle.lldb_btree.proofs.Below.{NoEdit, WayRead, AllGo, BelowSet, leaf_ended, inner_ended, headless, too_many, leaf_edited, leaf_refused, wayless, goes, below_refused, below_reads, below_grows, store_refused, inner_edited}
 use Rattle.lldb_btree.proofs.Full.{full_kept}
 use Rattle.lldb_btree.proofs.Splices.{refuses_then, refuses_last, caused_last, never}
 use Rattle.lldb_btree.proofs.Steps.{Got}
@@ -118,3 +118,31 @@ returns-clause-ends g t c =
     let on : WayRead c.args.put.now.key c.in-Some.bytes.now c.in-Some.count c.in-Some-way.front.now c.in-Some-way.child c.in-Some-way.back.now = rw (sym c.args.put.now.from_is) c.in-Some-way.ensures in
     let go : AllGo (g.H.Heap.map_of c.args.heap.now) (g.H.Heap.map_of c.read.new.self) c.args.handle c.args.room c.in-Some.count c.args.put.now.key c.in-Some-way.front.now c.in-Some-way.back.now c.in-Some-way.child = goes (g.H.Heap.map_of c.args.heap.now) (g.H.Heap.map_of c.read.new.self) c.args.handle c.args.room c.as_slice.result.now c.in-Some.bytes.now c.in-Some.leaf c.in-Some.count c.args.put.now.key c.in-Some-way.front.now c.in-Some-way.back.now c.in-Some-way.child got c.in-Some.ensures.whole c.if-leaf.false on c.read.ensures.map in
     inner_ended (g.H.Heap.map_of c.args.heap.now) (g.H.Heap.map_of c.read.new.self) c.args.handle c.args.room c.in-Some.count c.args.put.now.key c.args.put.now.value c.in-Some-way.front.now c.in-Some-way.back.now c.in-Some-way.child c.in_ok-below.below.ends c.is_last-ends.result go c.in_ok-below.ensures.ends c.is_last-ends.ensures
+
+pub returns-in_err-below-clause-grows : goal.returns-in_err-below-clause-grows
+returns-in_err-below-clause-grows g t c =
+    let got : Got (g.H.Heap.map_of c.args.heap.now) c.args.handle c.as_slice.result.now = rw c.as_slice.ensures c.in_ok-read.ensures.read in
+    let on : WayRead c.args.put.now.key c.in-Some.bytes.now c.in-Some.count c.in-Some-way.front.now c.in-Some-way.child c.in-Some-way.back.now = rw (sym c.args.put.now.from_is) c.in-Some-way.ensures in
+    let go : AllGo (g.H.Heap.map_of c.args.heap.now) (g.H.Heap.map_of c.read.new.self) c.args.handle c.args.room c.in-Some.count c.args.put.now.key c.in-Some-way.front.now c.in-Some-way.back.now c.in-Some-way.child = goes (g.H.Heap.map_of c.args.heap.now) (g.H.Heap.map_of c.read.new.self) c.args.handle c.args.room c.as_slice.result.now c.in-Some.bytes.now c.in-Some.leaf c.in-Some.count c.args.put.now.key c.in-Some-way.front.now c.in-Some-way.back.now c.in-Some-way.child got c.in-Some.ensures.whole c.if-leaf.false on c.read.ensures.map in
+    below_grows (g.H.Heap.map_of c.args.heap.now) (g.H.Heap.map_of c.read.new.self) c.args.handle c.args.room c.in-Some.count c.args.put.now.key c.in-Some-way.front.now c.in-Some-way.back.now c.in-Some-way.child go (g.H.Heap.size_of c.args.heap.now) (g.H.Heap.size_of c.read.new.self) (g.H.Heap.size_of c.set_below.new.heap) (g.H.Heap.size_of c.set_below.new.heap) c.read.ensures.size (omega arith) c.set_below.ensures.grows
+
+pub returns-in_err-stored-clause-grows : goal.returns-in_err-stored-clause-grows
+returns-in_err-stored-clause-grows g t c =
+    let got : Got (g.H.Heap.map_of c.args.heap.now) c.args.handle c.as_slice.result.now = rw c.as_slice.ensures c.in_ok-read.ensures.read in
+    let on : WayRead c.args.put.now.key c.in-Some.bytes.now c.in-Some.count c.in-Some-way.front.now c.in-Some-way.child c.in-Some-way.back.now = rw (sym c.args.put.now.from_is) c.in-Some-way.ensures in
+    let go : AllGo (g.H.Heap.map_of c.args.heap.now) (g.H.Heap.map_of c.read.new.self) c.args.handle c.args.room c.in-Some.count c.args.put.now.key c.in-Some-way.front.now c.in-Some-way.back.now c.in-Some-way.child = goes (g.H.Heap.map_of c.args.heap.now) (g.H.Heap.map_of c.read.new.self) c.args.handle c.args.room c.as_slice.result.now c.in-Some.bytes.now c.in-Some.leaf c.in-Some.count c.args.put.now.key c.in-Some-way.front.now c.in-Some-way.back.now c.in-Some-way.child got c.in-Some.ensures.whole c.if-leaf.false on c.read.ensures.map in
+    below_grows (g.H.Heap.map_of c.args.heap.now) (g.H.Heap.map_of c.read.new.self) c.args.handle c.args.room c.in-Some.count c.args.put.now.key c.in-Some-way.front.now c.in-Some-way.back.now c.in-Some-way.child go (g.H.Heap.size_of c.args.heap.now) (g.H.Heap.size_of c.read.new.self) (g.H.Heap.size_of c.set_below.new.heap) (g.H.Heap.size_of c.store.new.heap) c.read.ensures.size (c.store.ensures.grows) c.set_below.ensures.grows
+
+pub returns-in_err-node-clause-grows : goal.returns-in_err-node-clause-grows
+returns-in_err-node-clause-grows g t c =
+    let got : Got (g.H.Heap.map_of c.args.heap.now) c.args.handle c.as_slice.result.now = rw c.as_slice.ensures c.in_ok-read.ensures.read in
+    let on : WayRead c.args.put.now.key c.in-Some.bytes.now c.in-Some.count c.in-Some-way.front.now c.in-Some-way.child c.in-Some-way.back.now = rw (sym c.args.put.now.from_is) c.in-Some-way.ensures in
+    let go : AllGo (g.H.Heap.map_of c.args.heap.now) (g.H.Heap.map_of c.read.new.self) c.args.handle c.args.room c.in-Some.count c.args.put.now.key c.in-Some-way.front.now c.in-Some-way.back.now c.in-Some-way.child = goes (g.H.Heap.map_of c.args.heap.now) (g.H.Heap.map_of c.read.new.self) c.args.handle c.args.room c.as_slice.result.now c.in-Some.bytes.now c.in-Some.leaf c.in-Some.count c.args.put.now.key c.in-Some-way.front.now c.in-Some-way.back.now c.in-Some-way.child got c.in-Some.ensures.whole c.if-leaf.false on c.read.ensures.map in
+    below_grows (g.H.Heap.map_of c.args.heap.now) (g.H.Heap.map_of c.read.new.self) c.args.handle c.args.room c.in-Some.count c.args.put.now.key c.in-Some-way.front.now c.in-Some-way.back.now c.in-Some-way.child go (g.H.Heap.size_of c.args.heap.now) (g.H.Heap.size_of c.read.new.self) (g.H.Heap.size_of c.set_below.new.heap) (g.H.Heap.size_of c.store.new.heap) c.read.ensures.size (c.store.ensures.grows) c.set_below.ensures.grows
+
+pub returns-clause-grows : goal.returns-clause-grows
+returns-clause-grows g t c =
+    let got : Got (g.H.Heap.map_of c.args.heap.now) c.args.handle c.as_slice.result.now = rw c.as_slice.ensures c.in_ok-read.ensures.read in
+    let on : WayRead c.args.put.now.key c.in-Some.bytes.now c.in-Some.count c.in-Some-way.front.now c.in-Some-way.child c.in-Some-way.back.now = rw (sym c.args.put.now.from_is) c.in-Some-way.ensures in
+    let go : AllGo (g.H.Heap.map_of c.args.heap.now) (g.H.Heap.map_of c.read.new.self) c.args.handle c.args.room c.in-Some.count c.args.put.now.key c.in-Some-way.front.now c.in-Some-way.back.now c.in-Some-way.child = goes (g.H.Heap.map_of c.args.heap.now) (g.H.Heap.map_of c.read.new.self) c.args.handle c.args.room c.as_slice.result.now c.in-Some.bytes.now c.in-Some.leaf c.in-Some.count c.args.put.now.key c.in-Some-way.front.now c.in-Some-way.back.now c.in-Some-way.child got c.in-Some.ensures.whole c.if-leaf.false on c.read.ensures.map in
+    below_grows (g.H.Heap.map_of c.args.heap.now) (g.H.Heap.map_of c.read.new.self) c.args.handle c.args.room c.in-Some.count c.args.put.now.key c.in-Some-way.front.now c.in-Some-way.back.now c.in-Some-way.child go (g.H.Heap.size_of c.args.heap.now) (g.H.Heap.size_of c.read.new.self) (g.H.Heap.size_of c.set_below.new.heap) (g.H.Heap.size_of c.store.new.heap) c.read.ensures.size (c.store.ensures.grows) c.set_below.ensures.grows

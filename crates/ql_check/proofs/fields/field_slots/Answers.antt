@@ -4,8 +4,8 @@ use Rattle.ql_check.proofs.fields.field_slots.Goals as goal
 
 pub fields-preserved : goal.fields-preserved
 fields-preserved c =
-    next_place c.args.targets.now c.args.fields.now c.fields.at c.index-fields-at.result c.index-fields-at.result c.in_ok-slot_at.field-0 c.fields.slots c.push.new.self _
-    c.fields-test.true c.index-fields-at.is c.in_ok-slot_at.ensures c.in_ok-push.ensures.ok c.fields.invariant
+    next_place c.args.targets.now c.args.fields.now c.fields.at c.index-fields-at.result c.index-fields-at.result c.slot_at.result c.fields.slots c.push.new.self _
+    c.fields-test.true c.index-fields-at.is c.slot_at.ensures c.in_ok-push.ensures.ok c.fields.invariant
 
 pub returns : goal.returns
 returns c = all_placed c.args.targets.now c.args.fields.now c.fields.at c.fields.slots _ c.fields-test.false c.fields.invariant

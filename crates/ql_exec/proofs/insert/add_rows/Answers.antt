@@ -1,7 +1,7 @@
 -- One row more.
 use Rattle.std.proofs.Common.{◌≡◌, ◌<◌, length, get_or, subst, ◌∙◌}
 use Rattle.ql_rel.specs.Databases.{columns_at}
-use Rattle.ql_rel.specs.StatementEffects.{rows_added}
+use Rattle.ql_rel.specs.InsertEffects.{rows_added}
 use Rattle.ql_rel.specs.WellFormed.{Fits}
 use Rattle.ql_exec.proofs.Added.{turn_added}
 use Rattle.ql_exec.proofs.Rows.{next_all}

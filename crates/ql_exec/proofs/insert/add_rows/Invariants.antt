@@ -1,7 +1,7 @@
 use Rattle.std.proofs.Common.{◌≡◌, drop, IfSome}
 use Rattle.std.specs.List.{AllByRecursion}
 use Rattle.ql_rel.specs.Databases.{columns_at}
-use Rattle.ql_rel.specs.StatementEffects.{rows_added}
+use Rattle.ql_rel.specs.InsertEffects.{rows_added}
 use Rattle.ql_rel.specs.WellFormed.{Fits}
 use Rattle.ql_exec.specs.Carries.{Leaves}
 use Rattle.ql_exec.proofs.Added.{Onto}

@@ -1,6 +1,7 @@
 -- Each part is given what it asks for, and does what the statement does.
 use Rattle.std.proofs.Common.{length, sym, ◌∙◌}
-use Rattle.ql_exec.proofs.Carried.{query_planned, loud, quiet_does, create_level, create_planned, create_read, insert_level, insert_planned, query_does, create_does, is_other, others_do}
+use Rattle.ql_exec.proofs.Carried.{query_planned, create_level, create_planned, create_read, insert_level, insert_planned, insert_does, selected_later, query_does, create_does, is_other, others_do}
+use Rattle.ql_exec.proofs.Altered as altered
 use Rattle.ql_exec.proofs.Tabled.{drop_level, truncate_level, drop_planned, update_planned, delete_planned, truncate_planned, drop_does, truncate_does}
 use Rattle.ql_exec.proofs.statement.carry.Goals as goal
 
@@ -14,23 +15,45 @@ returns-in-Query-clause-done g c =
 
 pub create_table-requires-clause-level : goal.create_table-requires-clause-level
 create_table-requires-clause-level g c =
-    create_level c.args.statement.now c.in-CreateTable.table c.in-CreateTable.columns (length (g.R.Rel.saved c.args.rel.now)) (loud c.args.statement.now c.in-CreateTable.quiet c.in-CreateTable.table c.in-CreateTable.columns c.if-quiet.false c.in-CreateTable.is) c.requires.level
+    create_level c.args.statement.now c.in-CreateTable.quiet c.in-CreateTable.table c.in-CreateTable.columns (length (g.R.Rel.saved c.args.rel.now)) c.in-CreateTable.is c.requires.level
 
 pub create_table-requires-clause-plan : goal.create_table-requires-clause-plan
 create_table-requires-clause-plan g c =
-    create_planned (g.R.Rel.schema c.args.rel.now) c.args.statement.now c.in-CreateTable.table c.in-CreateTable.columns c.args.plan.now (loud c.args.statement.now c.in-CreateTable.quiet c.in-CreateTable.table c.in-CreateTable.columns c.if-quiet.false c.in-CreateTable.is) c.requires.plan
+    create_planned (g.R.Rel.schema c.args.rel.now) c.args.statement.now c.in-CreateTable.quiet c.in-CreateTable.table c.in-CreateTable.columns c.args.plan.now c.in-CreateTable.is c.requires.plan
 
 pub create_table-requires-clause-read : goal.create_table-requires-clause-read
 create_table-requires-clause-read g c =
-    create_read c.args.statement.now c.in-CreateTable.table c.in-CreateTable.columns (loud c.args.statement.now c.in-CreateTable.quiet c.in-CreateTable.table c.in-CreateTable.columns c.if-quiet.false c.in-CreateTable.is) c.requires.read
+    create_read c.args.statement.now c.in-CreateTable.quiet c.in-CreateTable.table c.in-CreateTable.columns c.in-CreateTable.is c.requires.read
 
-pub returns-then-quiet-clause-done : goal.returns-then-quiet-clause-done
-returns-then-quiet-clause-done g c =
-    quiet_does (Unit {0}) c.args.with_names c.args.statement.now c.in-CreateTable.quiet c.in-CreateTable.table c.in-CreateTable.columns c.args.plan.now c.refusal.result _ _ _ _ c.refusal.ensures c.if-quiet.true c.in-CreateTable.is
+pub returns-in-CreateTable-clause-done : goal.returns-in-CreateTable-clause-done
+returns-in-CreateTable-clause-done g c =
+    create_does c.args.with_names c.args.statement.now c.in-CreateTable.quiet c.in-CreateTable.table c.in-CreateTable.columns c.args.plan.now _ _ _ _ c.in-CreateTable.is c.create_table.ensures.done
 
-pub returns-else-quiet-clause-done : goal.returns-else-quiet-clause-done
-returns-else-quiet-clause-done g c =
-    create_does c.args.with_names c.args.statement.now c.in-CreateTable.table c.in-CreateTable.columns c.args.plan.now _ _ _ _ (loud c.args.statement.now c.in-CreateTable.quiet c.in-CreateTable.table c.in-CreateTable.columns c.if-quiet.false c.in-CreateTable.is) c.create_table.ensures.done
+pub add_column-requires-clause-level : goal.add_column-requires-clause-level
+add_column-requires-clause-level g c = altered.add_level c.args.statement.now c.in-AddColumn.table c.in-AddColumn.column (length (g.R.Rel.saved c.args.rel.now)) c.in-AddColumn.is c.requires.level
+
+pub add_column-requires-clause-plan : goal.add_column-requires-clause-plan
+add_column-requires-clause-plan g c =
+    altered.add_has (g.R.Rel.schema c.args.rel.now) c.args.statement.now c.in-AddColumn.table c.in-AddColumn.column c.get-in-AddColumn.result.now c.args.plan.now c.in-AddColumn.is c.get-in-AddColumn.ensures c.requires.plan
+
+pub add_column-requires-clause-read : goal.add_column-requires-clause-read
+add_column-requires-clause-read g c =
+    altered.add_read c.args.statement.now c.in-AddColumn.table c.in-AddColumn.column c.get-in-AddColumn.result.now c.in-AddColumn.is c.get-in-AddColumn.ensures c.requires.read
+
+pub returns-in-AddColumn-clause-done : goal.returns-in-AddColumn-clause-done
+returns-in-AddColumn-clause-done g c =
+    altered.add_does c.args.with_names c.args.statement.now c.in-AddColumn.table c.in-AddColumn.column c.get-in-AddColumn.result.now c.args.plan.now _ _ _ _ c.in-AddColumn.is c.get-in-AddColumn.ensures c.add_column.ensures.done
+
+pub drop_column-requires-clause-level : goal.drop_column-requires-clause-level
+drop_column-requires-clause-level g c = altered.drop_level c.args.statement.now c.in-DropColumn.table c.in-DropColumn.column (length (g.R.Rel.saved c.args.rel.now)) c.in-DropColumn.is c.requires.level
+
+pub drop_column-requires-clause-plan : goal.drop_column-requires-clause-plan
+drop_column-requires-clause-plan g c =
+    altered.drop_has (g.R.Rel.schema c.args.rel.now) c.args.statement.now c.in-DropColumn.table c.in-DropColumn.column c.args.plan.now c.in-DropColumn.is c.requires.plan
+
+pub returns-in-DropColumn-clause-done : goal.returns-in-DropColumn-clause-done
+returns-in-DropColumn-clause-done g c =
+    altered.drop_does c.args.with_names c.args.statement.now c.in-DropColumn.table c.in-DropColumn.column c.args.plan.now _ _ _ _ c.in-DropColumn.is c.drop_column.ensures.done
 
 pub insert_rows-requires-clause-level : goal.insert_rows-requires-clause-level
 insert_rows-requires-clause-level g c =
@@ -38,13 +61,18 @@ insert_rows-requires-clause-level g c =
 
 pub insert_rows-requires-clause-table : goal.insert_rows-requires-clause-table
 insert_rows-requires-clause-table g c =
-    (insert_planned (g.R.Rel.schema c.args.rel.now) c.args.statement.now c.in-Insert.table c.in-Insert.columns c.in-Insert.source c.get-in-Insert.result.now c.args.plan.now
-    c.in-Insert.is c.get-in-Insert.ensures (sym c.are_whole.ensures ∙ c.if-not-are_whole.false) c.requires.plan).there
+    (insert_planned (g.R.Rel.schema c.args.rel.now) c.args.statement.now c.in-Insert.table c.in-Insert.columns c.in-Insert.source c.get-in-Insert.result.now _ c.args.plan.now
+    c.in-Insert.is c.get-in-Insert.ensures c.in-Rows.is c.requires.plan).there
 
 pub insert_rows-requires-clause-typed : goal.insert_rows-requires-clause-typed
 insert_rows-requires-clause-typed g c =
-    (insert_planned (g.R.Rel.schema c.args.rel.now) c.args.statement.now c.in-Insert.table c.in-Insert.columns c.in-Insert.source c.get-in-Insert.result.now c.args.plan.now
-    c.in-Insert.is c.get-in-Insert.ensures (sym c.are_whole.ensures ∙ c.if-not-are_whole.false) c.requires.plan).typed
+    (insert_planned (g.R.Rel.schema c.args.rel.now) c.args.statement.now c.in-Insert.table c.in-Insert.columns c.in-Insert.source c.get-in-Insert.result.now _ c.args.plan.now
+    c.in-Insert.is c.get-in-Insert.ensures c.in-Rows.is c.requires.plan).typed
+
+pub returns-in-Rows-clause-done : goal.returns-in-Rows-clause-done
+returns-in-Rows-clause-done g c =
+    insert_does c.args.with_names c.args.statement.now c.in-Insert.table c.in-Insert.columns c.in-Insert.source c.get-in-Insert.result.now _ c.args.plan.now _ _ _ _
+    c.in-Insert.is c.get-in-Insert.ensures c.in-Rows.is c.insert_rows.ensures.done
 
 pub drop_table-requires-clause-level : goal.drop_table-requires-clause-level
 drop_table-requires-clause-level g c = drop_level c.args.statement.now c.in-DropTable.quiet c.in-DropTable.table (length (g.R.Rel.saved c.args.rel.now)) c.in-DropTable.is c.requires.level
@@ -87,4 +115,4 @@ returns-in-Truncate-clause-done g c =
 pub returns-in_default-clause-done : goal.returns-in_default-clause-done
 returns-in_default-clause-done g c =
     others_do (Unit {0}) c.args.with_names c.args.statement.now c.args.plan.now c.refusal-in_default.result _ _ _ _ c.refusal-in_default.ensures
-    (is_other c.args.statement.now c.in_default.not-Query c.in_default.not-CreateTable c.in_default.not-DropTable c.in_default.not-Insert c.in_default.not-Update c.in_default.not-Delete c.in_default.not-Truncate)
+    (is_other c.args.statement.now c.in_default.not-Query c.in_default.not-CreateTable c.in_default.not-DropTable c.in_default.not-AddColumn c.in_default.not-DropColumn c.in_default.not-Insert c.in_default.not-Update c.in_default.not-Delete c.in_default.not-Truncate)

@@ -10,4 +10,4 @@ pub returns-in-Err-clause-shows : goal.returns-in-Err-clause-shows
 returns-in-Err-clause-shows g c = shows_nothing _
 
 pub returns-in-Err-clause-means : goal.returns-in-Err-clause-means
-returns-in-Err-clause-means g c final = means_unread c.args.source c.in-Err.status c.in-Err.ensures.unread final (λ f e. rw c.as_slice.ensures at (c.in-Err.ensures.fault f (ap Err e)))
+returns-in-Err-clause-means g c final = means_unread c.args.options c.args.source c.in-Err.status c.in-Err.ensures.unread final (λ f e. rw c.as_slice.ensures at (c.in-Err.ensures.fault f (ap Err e)))

@@ -28,7 +28,7 @@ statements-preserved g c =
       ready = rw c.in-Ok.ensures.ready inv.ready;
       level = subst (λ (z : List (Option Db)). 0 < length z) (sym c.in-Ok.ensures.saved) inv.level;
       read = All-tail IsReadBack c.in-Some.statement _ (subst (All IsReadBack) steps.0 inv.read);
-      runs = from_on {T = Unit {0}} c.event_laws.ensures (course false false 1 c.args.statements (db_of c.args.rel.now.present)) _ _ _ (c.statements.number + 1) (c.statements.number + 1 + 1) _ c.in-Some.statement _ tt _ _
+      runs = from_on {T = Unit {0}} c.args.with_names c.event_laws.ensures (course c.args.with_names false 1 c.args.statements (db_of c.args.rel.now.present)) _ _ _ (c.statements.number + 1) (c.statements.number + 1 + 1) _ c.in-Some.statement _ tt _ _
           steps.0 (add-one (c.statements.number + 1)) inv.runs c.in-Ok.ensures.done;
       frame = (c.in-Ok.ensures.frame.0 ∙ inv.frame.0, c.in-Ok.ensures.frame.1 ∙ inv.frame.1);
       faults = c.in-Ok.ensures.cause ∙ inv.faults;
@@ -36,9 +36,9 @@ statements-preserved g c =
 
 pub returns-in-Err-clause-gives : goal.returns-in-Err-clause-gives
 returns-in-Err-clause-gives g c =
-    from_stopped c.event_laws.ensures (course false false 1 c.args.statements (db_of c.args.rel.now.present)) _ _ _ (c.statements.number + 1) _ c.in-Some.statement _ c.in-Err.fault _ _ c.stop_status.result
+    from_stopped c.args.with_names c.event_laws.ensures (course c.args.with_names false 1 c.args.statements (db_of c.args.rel.now.present)) _ _ _ (c.statements.number + 1) _ c.in-Some.statement _ c.in-Err.fault _ _ c.stop_status.result
     c.in-Some.ensures.steps.0 c.statements.invariant.runs c.in-Err.ensures.done c.stop_status.ensures
 
 pub returns-clause-gives : goal.returns-clause-gives
 returns-clause-gives g c =
-    from_end (course false false 1 c.args.statements (db_of c.args.rel.now.present)) _ _ (c.statements.number + 1) _ _ c.commit.result c.event_laws.ensures (none_left _ (sym c.statements.invariant.items ∙ c.in-None.ensures.steps.0)) c.statements.invariant.runs c.commit.ensures
+    from_end c.args.with_names (course c.args.with_names false 1 c.args.statements (db_of c.args.rel.now.present)) _ _ (c.statements.number + 1) _ _ c.commit.result c.event_laws.ensures (none_left _ (sym c.statements.invariant.items ∙ c.in-None.ensures.steps.0)) c.statements.invariant.runs c.commit.ensures

@@ -18,7 +18,7 @@ invariant-statements g l = record {
   ready : IsTrue l.rel.ready;
   level : 0 < length (saved_of l.rel.saved.items);
   read : All IsReadBack (into_iter_items l.statement-iterator);
-  runs : RunsFrom (course false false 1 l.fn.statements (db_of l.fn.rel.present)) (g.M.Shows.told l.fn.machine) (g.M.Shows.told l.machine) (l.number + 1) (into_iter_items l.statement-iterator) (Some (db_of l.rel.present));
+  runs : RunsFrom l.fn.with_names (course l.fn.with_names false 1 l.fn.statements (db_of l.fn.rel.present)) (g.M.Shows.told l.fn.machine) (g.M.Shows.told l.machine) (l.number + 1) (into_iter_items l.statement-iterator) (Some (db_of l.rel.present));
   frame : Keeps g.M.Shows.left g.M.Shows.fixed l.fn.machine l.machine;
   faults : g.M.Shows.faults l.machine ≡ g.M.Shows.faults l.fn.machine;
 }

@@ -1,9 +1,9 @@
-use Rattle.std.proofs.Common.{sym}
+use Rattle.std.proofs.Common.{sym, arith}
 use Rattle.lldb_btree.specs.declared.set.Changed.{Changed}
 use Rattle.lldb_btree.specs.Splicing.{IsFullFor}
 use Rattle.lldb_btree.specs.Trees.{MayBeNoTree}
 use Rattle.lldb_btree.proofs.Below.{NoEdit}
-use Rattle.lldb_btree.proofs.FromRoot.{NoRoot, RootSet, no_tree, root_refused, root_set, root_reads}
+use Rattle.lldb_btree.proofs.FromRoot.{NoRoot, RootSet, no_tree, root_refused, root_set, root_reads, root_grows}
 use Rattle.lldb_btree.proofs.Full.{full_kept}
 use Rattle.lldb_btree.proofs.Splices.{refuses_then, refuses_last}
 use Rattle.lldb_btree.proofs.tree.Tree.set.Goals as goal
@@ -35,3 +35,9 @@ returns-clause-refuses g c =
     (full_kept (g.H.Heap.limit_of c.set_below.new.heap) (g.H.Heap.limit_of c.args.heap.now) (g.H.Heap.size_of c.save_root.new.heap) (sym c.set_below.ensures.frame.limit))
     (root_refused (g.H.Heap.map_of c.args.heap.now) (g.H.Heap.map_of c.set_below.new.heap) c.args.self.now.handle c.args.key.now c.args.value.now c.as_slice.result.now c.requires.key c.requires.value set)
     c.save_root.ensures.refuses
+
+pub returns-in_err-root-clause-grows : goal.returns-in_err-root-clause-grows
+returns-in_err-root-clause-grows g c = root_grows (g.H.Heap.map_of c.args.heap.now) c.args.self.now.handle (g.H.Heap.size_of c.args.heap.now) (g.H.Heap.size_of c.set_below.new.heap) (g.H.Heap.size_of c.set_below.new.heap) (omega arith) c.set_below.ensures.grows
+
+pub returns-clause-grows : goal.returns-clause-grows
+returns-clause-grows g c = root_grows (g.H.Heap.map_of c.args.heap.now) c.args.self.now.handle (g.H.Heap.size_of c.args.heap.now) (g.H.Heap.size_of c.set_below.new.heap) (g.H.Heap.size_of c.save_root.new.heap) (c.save_root.ensures.grows) c.set_below.ensures.grows

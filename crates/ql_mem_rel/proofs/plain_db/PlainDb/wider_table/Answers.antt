@@ -1,4 +1,4 @@
-use Rattle.std.proofs.Common.{List, map, sym, ap, ◌∙◌}
+use Rattle.std.proofs.Common.{List, map, refl, sym, ap, ◌∙◌}
 use Rattle.ql_syntax.specs.declared.statement.ColumnDef.{ColumnDef}
 use Rattle.ql_rel.specs.declared.db.Row.{Row}
 use Rattle.ql_rel.specs.Changes.{with_null}
@@ -14,11 +14,11 @@ returns-in_err-check_column-clause-refused c =
 
 pub returns-in_err-rows-clause-refused : goal.returns-in_err-rows-clause-refused
 returns-in_err-rows-clause-refused c =
-    let same = column_later c.args.self.now.next_id c.args.table c.args.column.now c.args.self.now.schema c.args.self.now.rows.items c.as_slice.result.now c.index-as_slice-table.result c.index.result.now c.as_slice-2.result.now c.args.self.now.held c.requires c.as_slice.ensures c.index-as_slice-table.is c.index.ensures c.as_slice-2.ensures c.in_ok-check_column.ensures.refused in
+    let same = column_later c.args.self.now.next_id c.args.table c.args.column.now c.args.self.now.schema c.args.self.now.rows.items c.as_slice.result.now c.index-as_slice-table.result c.index.result.now c.index.result.now c.args.self.now.held c.requires c.as_slice.ensures c.index-as_slice-table.is c.index.ensures refl c.in_ok-check_column.ensures.refused in
     column_after (List Row) (List Row) _ _ c.in_err-rows.field-0.0 c.from_residual-in_err-rows.result same c.from_residual-in_err-rows.ensures.1 c.in_err-rows.ensures.refused
 
 pub returns-clause-rows : goal.returns-clause-rows
-returns-clause-rows c = c.in_ok-rows.ensures.rows ∙ ap (λ (rs : List Row). map with_null rs) (c.as_slice-2.ensures ∙ sym (rows_kept c.args.self.now.next_id c.args.self.now.schema c.args.self.now.rows.items c.args.table c.index.result.now c.args.self.now.held c.requires c.index.ensures))
+returns-clause-rows c = c.in_ok-rows.ensures.rows ∙ ap (λ (rs : List Row). map with_null rs) (sym (rows_kept c.args.self.now.next_id c.args.self.now.schema c.args.self.now.rows.items c.args.table c.index.result.now c.args.self.now.held c.requires c.index.ensures))
 
 pub returns-clause-few : goal.returns-clause-few
 returns-clause-few c =
@@ -26,5 +26,5 @@ returns-clause-few c =
 
 pub returns-clause-refused : goal.returns-clause-refused
 returns-clause-refused c =
-    let same = column_later c.args.self.now.next_id c.args.table c.args.column.now c.args.self.now.schema c.args.self.now.rows.items c.as_slice.result.now c.index-as_slice-table.result c.index.result.now c.as_slice-2.result.now c.args.self.now.held c.requires c.as_slice.ensures c.index-as_slice-table.is c.index.ensures c.as_slice-2.ensures c.in_ok-check_column.ensures.refused in
+    let same = column_later c.args.self.now.next_id c.args.table c.args.column.now c.args.self.now.schema c.args.self.now.rows.items c.as_slice.result.now c.index-as_slice-table.result c.index.result.now c.index.result.now c.args.self.now.held c.requires c.as_slice.ensures c.index-as_slice-table.is c.index.ensures refl c.in_ok-check_column.ensures.refused in
     sym same ∙ c.in_ok-rows.ensures.refused

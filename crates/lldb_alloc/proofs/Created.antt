@@ -1,0 +1,183 @@
+-- A content is added to a heap that is told.
+use Rattle.std.proofs.Common.{◌≡◌, ℕ, ◌+◌, ◌-◌, ◌*◌, ◌/◌, ◌<◌, ◌≤◌, List, [], ◌∷◌, ◌++◌, length, Option, Some, None, IfSome, refl, sym, ◌∙◌, ap, subst, inl, inr, arith, get_or, option_map}
+use Rattle.std.proofs.lemmas.Bool.{cases_eq, cases_lt}
+use Rattle.std.proofs.lemmas.List.{get_or-replicate, get_or_past, length-replicate}
+use Rattle.std.specs.Prelude.{replicate}
+use Rattle.std.specs.Option.{IsSomeAnd}
+use Rattle.lldb_base.specs.Batch.{put}
+use Rattle.lldb_base.specs.Contents.{Contents, content_of, with_content, atoms_for}
+use Rattle.lldb_atoms.specs.Blocks.{Extent, Used, Free, Hole, Tile}
+use Rattle.lldb_atoms.specs.Rows.{atoms_in, extent_at, contains, targets, heap}
+use Rattle.lldb_atoms.specs.Lists.{row_of}
+use Rattle.lldb_atoms.specs.Sound.{sound_tiling, heap_in, tiling}
+use Rattle.lldb_atoms.proofs.Says.{atoms_some}
+use Rattle.lldb_blocks.specs.Laid.{Solid, Lays, AtRest}
+use Rattle.lldb_blocks.proofs.Looks.{found, look_past}
+use Rattle.lldb_blocks.proofs.Heaps.{heap_at, meant}
+use Rattle.lldb_blocks.proofs.Lays.{lays_filled, lays_grown, lays_length}
+use Rattle.lldb_blocks.proofs.Bridges.{lays_heap, sound_lays}
+use Rattle.lldb_blocks.proofs.Places.{put_end}
+use Rattle.lldb_blocks.proofs.Readings.{lays_new, rest_new}
+use Rattle.lldb_blocks.proofs.Calls.{made_whole, made_part, made_last, empty_row}
+use Rattle.lldb_alloc.specs.Changes.{Turns, LacksRow, LacksPart, TakesPart, WritesUsed, NewTable, left_over}
+use Rattle.lldb_alloc.specs.Room.{FindsRoom, most_in, most_free_told}
+use Rattle.lldb_alloc.specs.Told.{heap_told, Creates}
+use Rattle.lldb_alloc.proofs.Parts.{left_none, left_some}
+use Rattle.lldb_alloc.proofs.ToldHeaps.{rested, no_contents}
+
+-- what is said of a heap that is told, by the row at rest that lies in its content
+pub by_row : (P : Option Contents → Type 0) (b : ℕ) (c : List ℕ) → P None → ((row : List Extent) → Lays (b ∷ c) row → AtRest row → P (Some (heap row))) → P (heap_in (b ∷ c))
+by_row P b c none some = at_heap (heap_in (b ∷ c)) refl
+  where
+    at_heap : (o : Option Contents) → heap_in (b ∷ c) ≡ o → P o
+    at_heap None is = none
+    at_heap (Some m) is =
+        let r = rested b c m is in
+        subst (λ (n : Contents). P (Some n)) r.heap_is (some r.row r.lays r.rest)
+
+-- a content in which no row lies has no heap
+pub unsound : (told : Option (List ℕ)) (size : ℕ) → IfSome told (λ c. length c ≡ size) → 128 ≤ size → ((c : List ℕ) (row : List Extent) → told ≡ Some c → Lays c row → AtRest row → ⊥) → heap_told told ≡ None
+unsound None size long table not = refl
+unsound (Some []) size long table not = absurd (omega (arith, long, table))
+unsound (Some (b ∷ c)) size long table not = by_row (λ o. o ≡ None) b c refl (λ row l rest. absurd (not (b ∷ c) row refl l rest))
+
+told_fact : (P : List ℕ → Type 0) (told : Option (List ℕ)) (c : List ℕ) → told ≡ Some c → IfSome told P → P c
+told_fact P None c is fact = absurd (cc)
+told_fact P (Some d) c is fact = let same : d ≡ c = cc in subst P same fact
+
+pub rowless_unsound : (told : Option (List ℕ)) (size : ℕ) → IfSome told (λ c. length c ≡ size) → 128 ≤ size → IfSome told LacksRow → heap_told told ≡ None
+rowless_unsound told size long table lacks = unsound told size long table (λ c row is l rest. told_fact LacksRow told c is lacks row l)
+
+pub uneven_unsound : (told : Option (List ℕ)) (size : ℕ) → IfSome told (λ c. length c ≡ size) → (size ≡ 0 → ⊥) → (size / 16 * 16 ≡ size → 128 ≤ size → ⊥) → heap_told told ≡ None
+uneven_unsound None size long some uneven = refl
+uneven_unsound (Some []) size long some uneven = absurd (some (sym long))
+uneven_unsound (Some (b ∷ c)) size long some uneven = by_row (λ o. o ≡ None) b c refl (λ row l rest.
+    let all = lays_length (b ∷ c) row l in
+    absurd (uneven (omega (arith, all, long)) (omega (arith, all, long))))
+
+-- a found block has the part
+pub part_unsound : (told : Option (List ℕ)) (size atoms at : ℕ) → IfSome told (λ c. length c ≡ size) → 128 ≤ size → IfSome told (FindsRoom atoms (Some at)) → IfSome told (LacksPart at atoms) → heap_told told ≡ None
+part_unsound told size atoms at long table room lacks = unsound told size long table (λ c row is l rest.
+    let r = told_fact (FindsRoom atoms (Some at)) told c is room row l in
+    let f = found 8 row at (Free r.0) r.1 in
+    told_fact (LacksPart at atoms) told c is lacks f.0 f.1 r.0 f.3 r.2 (subst (λ (z : List Extent). Lays c z) f.2 l))
+
+-- nothing stands at a place
+unused : (row : List Extent) (q : ℕ) (o : Option Extent) → Solid row → extent_at 8 row q ≡ o → meant (contains (targets row)) (extent_at 8 row) q o ≡ None → content_of q (heap row) ≡ None
+unused row q o solid is none = heap_at row q solid ∙ ap (meant (contains (targets row)) (extent_at 8 row) q) is ∙ none
+
+-- a content behind the last block
+grown : (c d : List ℕ) (row : List Extent) (at : ℕ) (u : List ℕ) → length c ≡ 16 * at → Lays c row → AtRest row → WritesUsed at u c d → (content_of at (heap row) ≡ None) × (heap row ≡ [] → at ≡ 8) × (heap_in d ≡ Some (with_content at u (heap row)))
+grown c d row at u long l rest w =
+    let all = lays_length c row l in
+    let place : at ≡ 8 + atoms_in row = omega (arith, all, long) in
+    let made = made_last row u l.spells.solid rest (atoms_some (length u)) in
+    let grows : Lays (put (length c) w.0 c) (row ++ Used u ∷ []) = lays_grown c row (Used u) w.0 refl (atoms_some (length u)) w.1 l in
+    let same : d ≡ put (length c) w.0 c = w.2 ∙ ap (λ (n : ℕ). put n w.0 c) (sym long) in
+    let lays : Lays d (row ++ Used u ∷ []) = subst (λ (z : List ℕ). Lays z (row ++ Used u ∷ [])) (sym same) grows in (
+      unused row at None l.spells.solid (ap (extent_at 8 row) place ∙ look_past 8 row (8 + atoms_in row) l.spells.solid (omega arith)) refl,
+      λ none. place ∙ ap (λ (r : List Extent). 8 + atoms_in r) (empty_row row l.spells.solid rest none),
+      lays_heap d (row ++ Used u ∷ []) lays made.0 ∙ ap (λ (m : Contents). Some m) made.1 ∙ ap (λ (q : ℕ). Some (with_content q u (heap row))) (sym place),
+    )
+
+creates_all : (at : ℕ) (u : List ℕ) (m : Contents) (d : List ℕ) → (content_of at m ≡ None) × (m ≡ [] → at ≡ 8) × (heap_in d ≡ Some (with_content at u m)) → Creates at u (Some m) (heap_told (Some d))
+creates_all at u m d all = all
+
+pub created_behind : (told after : Option (List ℕ)) (at size : ℕ) (u : List ℕ) → IfSome told (λ c. length c ≡ size) → 16 * at ≡ size → 128 ≤ size → Turns told after (WritesUsed at u) → Creates at u (heap_told told) (heap_told after)
+created_behind None after at size u long even table writes = tt
+created_behind (Some []) after at size u long even table writes = absurd (omega (arith, long, table))
+created_behind (Some (b ∷ c)) None at size u long even table writes = absurd writes
+created_behind (Some (b ∷ c)) (Some d) at size u long even table writes = by_row (λ o. Creates at u o (heap_in d)) b c tt (λ row l rest. grown (b ∷ c) d row at u (long ∙ sym even) l rest writes)
+
+-- the first content
+pub created_first : (told mid after : Option (List ℕ)) (u : List ℕ) → IfSome told (λ c. length c ≡ 0) → Turns told mid NewTable → Turns mid after (WritesUsed 8 u) → Creates 8 u (heap_told told) (heap_told after)
+created_first None mid after u long table writes = tt
+created_first (Some (b ∷ c)) mid after u long table writes = absurd (omega (arith, long))
+created_first (Some []) None after u long table writes = absurd table
+created_first (Some []) (Some d) None u long table writes = absurd writes
+created_first (Some []) (Some d) (Some e) u long table writes =
+    let all = lays_length d [] table in
+    subst (λ (o : Option Contents). Creates 8 u o (heap_in e)) (sym no_contents) (grown d e [] 8 u (omega (arith, all)) table rest_new writes)
+
+-- a content in a free block, of which the rest stays free
+filled : (c d e : List ℕ) (row : List Extent) (at : ℕ) (u : List ℕ) → Lays c row → AtRest row → FindsRoom (atoms_for (length u)) (Some at) c → TakesPart at (atoms_for (length u)) c d → WritesUsed at u d e → (content_of at (heap row) ≡ None) × (heap row ≡ [] → at ≡ 8) × (heap_in e ≡ Some (with_content at u (heap row)))
+filled c d e row at u l rest room takes w =
+    let n : ℕ = atoms_for (length u) in
+    let r = room row l in
+    let s : ℕ = r.0 in
+    let f = found 8 row at (Free s) r.1 in
+    let x : List Extent = f.0 in
+    let y : List Extent = f.1 in
+    let place : at ≡ 8 + atoms_in x = f.3 in
+    let solid : Solid (x ++ Free s ∷ y) = subst (λ (z : List Extent). Solid z) f.2 l.spells.solid in
+    let before : Lays c (x ++ Free s ∷ y) = subst (λ (z : List Extent). Lays c z) f.2 l in
+    let stood : AtRest (x ++ Free s ∷ y) = subst (λ (z : List Extent). AtRest z) f.2 rest in
+    let hole : Lays d (x ++ Hole n ∷ (left_over (s - n) ++ y)) = takes x y s place r.2 before in
+    let lays : Lays (put (16 * at) w.0 d) (x ++ Used u ∷ (left_over (s - n) ++ y)) = lays_filled d x (Used u) (left_over (s - n) ++ y) at w.0 place refl w.1 hole in
+    let there : Lays e (x ++ Used u ∷ (left_over (s - n) ++ y)) = subst (λ (z : List ℕ). Lays z (x ++ Used u ∷ (left_over (s - n) ++ y))) (sym w.2) lays in
+    let done = rests x y s r.2 solid stood in (
+      unused row at (Some (Free s)) l.spells.solid r.1 refl,
+      λ none. absurd (not_empty x (Free s) y (sym f.2 ∙ empty_row row l.spells.solid rest none)),
+      lays_heap e (x ++ Used u ∷ (left_over (s - n) ++ y)) there done.0 ∙ ap (λ (m : Contents). Some m) done.1 ∙ ap (λ (q : ℕ). Some (with_content q u (heap (x ++ Free s ∷ y)))) (sym place) ∙ ap (λ (z : List Extent). Some (with_content at u (heap z))) (sym f.2),
+    )
+  where
+    not_empty : (x : List Extent) (e : Extent) (y : List Extent) → x ++ e ∷ y ≡ [] → ⊥
+    not_empty [] e y is = cc
+    not_empty (b ∷ x) e y is = cc
+
+    rests : (x y : List Extent) (s : ℕ) → atoms_for (length u) ≤ s → Solid (x ++ Free s ∷ y) → AtRest (x ++ Free s ∷ y) → AtRest (x ++ Used u ∷ (left_over (s - atoms_for (length u)) ++ y)) × (heap (x ++ Used u ∷ (left_over (s - atoms_for (length u)) ++ y)) ≡ with_content (8 + atoms_in x) u (heap (x ++ Free s ∷ y)))
+    rests x y s room solid rest = elim (cases_eq (s - atoms_for (length u)) 0) [
+      | inl none ↦
+          let same : s ≡ atoms_for (length u) = omega (arith, none, room) in
+          let made = made_whole x u y (subst (λ (k : ℕ). Solid (x ++ Free k ∷ y)) same solid) (subst (λ (k : ℕ). AtRest (x ++ Free k ∷ y)) same rest) in
+          subst (λ (z : List Extent). AtRest (x ++ Used u ∷ (z ++ y)) × (heap (x ++ Used u ∷ (z ++ y)) ≡ with_content (8 + atoms_in x) u (heap (x ++ Free s ∷ y)))) (sym (left_none (s - atoms_for (length u)) none))
+          (made.0, made.1 ∙ ap (λ (k : ℕ). with_content (8 + atoms_in x) u (heap (x ++ Free k ∷ y))) (sym same))
+      | inr some ↦
+          let whole : s ≡ atoms_for (length u) + (s - atoms_for (length u)) = omega (arith, room) in
+          let made = made_part x u (s - atoms_for (length u)) y (omega (arith, some)) (subst (λ (k : ℕ). Solid (x ++ Free k ∷ y)) whole solid) (subst (λ (k : ℕ). AtRest (x ++ Free k ∷ y)) whole rest) (atoms_some (length u)) in
+          subst (λ (z : List Extent). AtRest (x ++ Used u ∷ (z ++ y)) × (heap (x ++ Used u ∷ (z ++ y)) ≡ with_content (8 + atoms_in x) u (heap (x ++ Free s ∷ y)))) (sym (left_some (s - atoms_for (length u)) some))
+          (made.0, made.1 ∙ ap (λ (k : ℕ). with_content (8 + atoms_in x) u (heap (x ++ Free k ∷ y))) (sym whole))
+    ]
+
+pub created_within : (told mid after : Option (List ℕ)) (at size : ℕ) (u : List ℕ) → IfSome told (λ c. length c ≡ size) → 128 ≤ size → IfSome told (FindsRoom (atoms_for (length u)) (Some at)) → Turns told mid (TakesPart at (atoms_for (length u))) → Turns mid after (WritesUsed at u) → Creates at u (heap_told told) (heap_told after)
+created_within None mid after at size u long table room takes writes = tt
+created_within (Some []) mid after at size u long table room takes writes = absurd (omega (arith, long, table))
+created_within (Some (b ∷ c)) None after at size u long table room takes writes = absurd takes
+created_within (Some (b ∷ c)) (Some d) None at size u long table room takes writes = absurd writes
+created_within (Some (b ∷ c)) (Some d) (Some e) at size u long table room takes writes = by_row (λ o. Creates at u o (heap_in e)) b c tt (λ row l rest. filled (b ∷ c) d e row at u l rest room takes writes)
+
+-- no free block has room
+pub none_free : (told : Option (List ℕ)) (atoms : ℕ) → 1 ≤ atoms → IfSome told (FindsRoom atoms None) → most_free_told told < atoms
+none_free None atoms some room = some
+none_free (Some c) atoms some room = at_tiles (sound_tiling c) refl
+  where
+    at_tiles : (o : Option (List Tile)) → sound_tiling c ≡ o → most_in o < atoms
+    at_tiles None is = some
+    at_tiles (Some tiles) is = room (row_of tiles) (sound_lays c tiles is).0
+
+untiled : most_in (sound_tiling []) ≡ 0
+unfolding sound_tiling tiling
+untiled = refl
+
+pub none_empty : (told : Option (List ℕ)) → IfSome told (λ c. length c ≡ 0) → most_free_told told ≡ 0
+none_empty None long = refl
+none_empty (Some []) long = untiled
+none_empty (Some (b ∷ c)) long = absurd (omega (arith, long))
+
+-- a table of zeros in an empty content
+pub table_told : (before after : Option (List ℕ)) (t : List ℕ) → length t ≡ 128 → ((i : ℕ) → get_or t i 0 ≡ 0) → IfSome before (λ c. length c ≡ 0) → after ≡ option_map (put 0 t) before → Turns before after NewTable
+table_told None after t long zeros none is = tt
+table_told (Some (b ∷ c)) after t long zeros none is = absurd (omega (arith, none))
+table_told (Some []) after t long zeros none is = subst (λ (o : Option (List ℕ)). IsSomeAnd o (λ d. NewTable [] d)) (sym is) (subst (λ (d : List ℕ). Lays d []) (sym (put_end [] t)) (lays_new t long zeros))
+
+zeros : (n i : ℕ) → ◌≡◌ {A = ℕ} (get_or (replicate n 0) i 0) 0
+zeros n i =
+    let zero : ℕ = 0 in
+    let long = length-replicate {A = ℕ} n 0 in
+    elim (cases_lt i n) [
+      | inl within ↦ get_or-replicate n i zero zero within
+      | inr past ↦ get_or_past (replicate n zero) i zero (omega (arith, long, past))
+    ]
+
+pub table_zeros : (before after : Option (List ℕ)) (size : ℕ) → size ≡ 0 → IfSome before (λ c. length c ≡ size) → after ≡ option_map (put 0 (replicate 128 0)) before → Turns before after NewTable
+table_zeros before after size none long is = table_told before after (replicate 128 0) (length-replicate {A = ℕ} 128 0) (zeros 128) (subst (λ (k : ℕ). IfSome before (λ c. length c ≡ k)) none long) is

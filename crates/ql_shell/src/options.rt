@@ -1,0 +1,46 @@
+//! The options of the command line.
+ghost use Rattle.std.specs.Prelude.{◌≡◌};
+ghost use Rattle.ql_shell.specs.Words as spec;
+
+/// An option that is set or unset.
+#[derive(Clone, Copy, Debug, PartialEq, Eq)]
+pub enum Flag {
+    /// `-fld`: a line with the names of its fields stands before the rows of each SELECT.
+    Fld,
+}
+
+/// What the options of the command line ask for.
+#[derive(Clone, Copy, Debug)]
+pub struct Options {
+    /// The names of fields are shown before rows.
+    pub with_names: bool,
+}
+
+impl Options {
+    /// What is asked for where no option stands.
+    pub fn none() -> Options
+        ensures { result ≡ spec.no_options }
+    {
+        Options { with_names: false }
+    }
+
+    /// These options with one of them set or unset.
+    pub fn with(self, flag: Flag, on: bool) -> Options
+        ensures { result ≡ spec.with_flag self flag on }
+    {
+        match flag {
+            Flag::Fld => Options { with_names: on },
+        }
+    }
+}
+
+/// The flag with a name.
+#[tactic(auto, unfolding(crate::specs::Words::flag_named))]
+pub fn flag_named(name: &[u8]) -> Option<Flag>
+    ensures { result ≡ spec.flag_named name.now }
+{
+    if name == b"fld".as_slice() {
+        return Some(Flag::Fld);
+    }
+    None
+}
