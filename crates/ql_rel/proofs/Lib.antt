@@ -20,7 +20,6 @@ mod ColumnForms
 mod NarrowForms
 mod TextLemmas
 mod EventLemmas
-mod SessionLemmas
 mod StatementExamples
 pub mod TargetFits
 pub mod InsertFits

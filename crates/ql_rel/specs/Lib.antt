@@ -29,7 +29,5 @@ pub mod InsertEffects
 pub mod StatementEffects
 pub mod Events
 pub mod Courses
-pub mod Sessions
 pub mod EventLaws
-pub mod SessionLaws
 pub mod PlanLaws

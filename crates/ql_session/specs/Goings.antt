@@ -1,0 +1,45 @@
+-- How a statement of a session stands to its step.
+use Rattle.std.specs.Prelude.{◌≡◌, ℕ, List, [], ◌∷◌, map, Option, Some, Result, Ok, Err}
+use Rattle.ql_edge.specs.Told.{Told, with_shown, ShowsFront}
+use Rattle.ql_syntax.specs.Answers.{Answer}
+use Rattle.ql_exec.specs.declared.fault.ExecFault.{ExecFault}
+use Rattle.ql_exec.specs.declared.fault.ExecFault.TheVariants as exec
+use Rattle.ql_rel.specs.declared.db.Db.{Db}
+use Rattle.ql_rel.specs.Events.{Event, shown_text}
+use Rattle.ql_session.specs.Sessions.{State}
+use Rattle.ql_session.specs.declared.fault.StepFault.{StepFault}
+use Rattle.ql_session.specs.declared.fault.StepFault.TheVariants as step
+
+-- what the fault of a statement that is carried out becomes
+abbrev pub step_fault_of : ExecFault → StepFault
+step_fault_of (exec.Refused r) = step.Refused r
+step_fault_of (exec.Trouble t) = step.Trouble t
+
+-- the database that the outermost level saved, or the one that is held where no level is open
+abbrev pub outermost : Db → List Db → Db
+outermost db [] = db
+outermost db (d ∷ outer) = outermost d outer
+
+-- the relation stands where a session does
+pub record Stands (db : Option Db) (saved : List (Option Db)) (st : State) : Type 0 where
+  pub db : db ≡ Some st.db
+  pub saved : saved ≡ map (λ (d : Db). Some d) st.saved
+  pub kept : st.kept ≡ outermost st.db st.saved
+
+-- the text of a step, which shows nothing where it is refused
+abbrev pub text_of : Answer (List Event × State) → List ℕ
+text_of (Ok done) = shown_text done.0
+text_of (Err _) = []
+
+-- a step was done: its text was shown, and the relation stands where the session does
+pub record Went (step : Answer (List Event × State)) (before now : Told) (db : Option Db) (saved : List (Option Db)) : Type 0 where
+  pub done : List Event × State
+  pub is : step ≡ Ok done
+  pub shown : now ≡ with_shown (shown_text done.0) before
+  pub stands : Stands db saved done.1
+
+-- a step is done, or has this refusal and shows nothing, or a front of its text is shown before a trouble
+abbrev pub Goes : {T : Type 0} → Answer (List Event × State) → Result T StepFault → (before now : Told) → Option Db → List (Option Db) → Type 0
+Goes answer (Ok _) before now db saved = Went answer before now db saved
+Goes answer (Err (step.Refused r)) before now db saved = (answer ≡ Err r) × (now ≡ before)
+Goes answer (Err (step.Trouble _)) before now db saved = ShowsFront (text_of answer) before now

@@ -1,0 +1,8 @@
+//! Scripts, carried out statement by statement on any tables.
+#![tactic(auto)]
+
+mod fault;
+mod levels;
+
+pub use fault::StepFault;
+pub use levels::{begin, roll_back};
