@@ -21,9 +21,9 @@ outermost db [] = db
 outermost db (d ∷ outer) = outermost d outer
 
 -- the relation stands where a session does
-pub record Stands (db : Option Db) (saved : List (Option Db)) (st : State) : Type 0 where
-  pub db : db ≡ Some st.db
-  pub saved : saved ≡ map (λ (d : Db). Some d) st.saved
+pub record Stands (held : Option Db) (levels : List (Option Db)) (st : State) : Type 0 where
+  pub db : held ≡ Some st.db
+  pub saved : levels ≡ map (λ (d : Db). Some d) st.saved
   pub kept : st.kept ≡ outermost st.db st.saved
 
 -- the text of a step, which shows nothing where it is refused
@@ -43,3 +43,15 @@ abbrev pub Goes : {T : Type 0} → Answer (List Event × State) → Result T Ste
 Goes answer (Ok _) before now db saved = Went answer before now db saved
 Goes answer (Err (step.Refused r)) before now db saved = (answer ≡ Err r) × (now ≡ before)
 Goes answer (Err (step.Trouble _)) before now db saved = ShowsFront (text_of answer) before now
+
+-- a level was closed: so many outermost commits there were, the text of the step was shown, and the relation stands where the session does; or a front of the text was shown before a trouble
+abbrev pub Closes : (List Event × State) → Result ℕ StepFault → (before now : Told) → Option Db → List (Option Db) → Type 0
+Closes done (Ok commits) before now db saved = (commits ≡ done.1.commits) × (now ≡ with_shown (shown_text done.0) before) × Stands db saved done.1
+Closes done (Err (step.Refused _)) before now db saved = ⊥
+Closes done (Err (step.Trouble _)) before now db saved = ShowsFront (shown_text done.0) before now
+
+-- a line is shown, or a front of it before a trouble
+abbrev pub ShowsLine : {T : Type 0} → List ℕ → Result T StepFault → (before now : Told) → Type 0
+ShowsLine line (Ok _) before now = now ≡ with_shown line before
+ShowsLine line (Err (step.Refused _)) before now = ⊥
+ShowsLine line (Err (step.Trouble _)) before now = ShowsFront line before now

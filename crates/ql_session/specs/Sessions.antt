@@ -1,5 +1,5 @@
 -- Where a script stands between its statements, and what a statement does there: levels that open and close, and the effect of every other one.
-use Rattle.std.specs.Prelude.{ℕ, zero, suc, Bool, true, false, ◌&&◌, ◌==◌, nat_lt, if◌then◌else◌, List, [], ◌∷◌, drop, length, codes, Ok, Err}
+use Rattle.std.specs.Prelude.{ℕ, zero, suc, Bool, true, false, ◌&&◌, ◌==◌, nat_lt, if◌then◌else◌, List, [], ◌∷◌, ◌++◌, drop, length, codes, decimal, Ok, Err}
 use Rattle.ql_syntax.specs.declared.statement.Statement.{Statement}
 use Rattle.ql_syntax.specs.declared.statement.Statement.TheVariants as s
 use Rattle.ql_syntax.specs.Answers.{Answer, refused, then_with}
@@ -53,6 +53,10 @@ abbrev pub closed : Bool → List Db → State → List Event × State
 closed ack [] st = (committed ack (suc st.commits) st.db, record { db = st.db; saved = []; kept = st.db; commits = suc st.commits; base = st.base })
 closed ack (d ∷ outer) st = ([], record { db = st.db; saved = d ∷ outer; kept = st.kept; commits = st.commits; base = st.base })
 
+-- the line of an outermost commit
+abbrev pub commit_line : ℕ → List ℕ
+commit_line number = codes "COMMIT " ++ decimal number ++ codes "\n"
+
 -- COMMIT
 abbrev pub closes : Bool → State → Answer (List Event × State)
 closes ack st = if is_closed st then refused no_transaction else Ok (closed ack (drop 1 st.saved) st)
@@ -68,7 +72,7 @@ rolls_back st = if is_closed st then refused no_transaction else Ok ([], rolled_
 
 -- a statement is carried out inside a level alone
 abbrev pub needs_level : Statement → Bool
-needs_level s.Begin = false
+needs_level s.Begin = true
 needs_level s.Commit = true
 needs_level s.Rollback = true
 needs_level (s.Query _) = false

@@ -5,4 +5,4 @@ mod fault;
 mod levels;
 
 pub use fault::StepFault;
-pub use levels::{begin, roll_back};
+pub use levels::{begin, carry_out, close, roll_back};
