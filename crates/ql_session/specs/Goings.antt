@@ -55,3 +55,22 @@ abbrev pub ShowsLine : {T : Type 0} → List ℕ → Result T StepFault → (bef
 ShowsLine line (Ok _) before now = now ≡ with_shown line before
 ShowsLine line (Err (step.Refused _)) before now = ⊥
 ShowsLine line (Err (step.Trouble _)) before now = ShowsFront line before now
+
+-- a session is at a state: its relation stands there, and it counted the commits and the levels that opened by themselves
+pub record IsAt (held : Option Db) (levels : List (Option Db)) (counted own : ℕ) (st : State) : Type 0 where
+  pub stands : Stands held levels st
+  pub commits : counted ≡ st.commits
+  pub base : own ≡ st.base
+
+-- a step of a session was done: its text was shown, and the session is where it says
+pub record Moved (step : Answer (List Event × State)) (before now : Told) (held : Option Db) (levels : List (Option Db)) (counted own : ℕ) : Type 0 where
+  pub done : List Event × State
+  pub is : step ≡ Ok done
+  pub shown : now ≡ with_shown (shown_text done.0) before
+  pub at : IsAt held levels counted own done.1
+
+-- a step of a session is done, or has this refusal and shows nothing, or a front of its text is shown before a trouble
+abbrev pub Moves : {T : Type 0} → Answer (List Event × State) → Result T StepFault → (before now : Told) → Option Db → List (Option Db) → (counted own : ℕ) → Type 0
+Moves answer (Ok _) before now held levels counted own = Moved answer before now held levels counted own
+Moves answer (Err (step.Refused r)) before now held levels counted own = (answer ≡ Err r) × (now ≡ before)
+Moves answer (Err (step.Trouble _)) before now held levels counted own = ShowsFront (text_of answer) before now

@@ -13,16 +13,16 @@ use ql_value::{Kind, Refusal, Value, print_value};
 use std::alloc::Global;
 
 /// How many levels may be open.
-pub const MOST_LEVELS: u32 = 256;
+pub(crate) const MOST_LEVELS: u32 = 256;
 
 /// No level is open that the script opened.
-pub const NO_TRANSACTION: u8 = 40;
+pub(crate) const NO_TRANSACTION: u8 = 40;
 
 /// One level too many.
-pub const TOO_DEEP: u8 = 41;
+pub(crate) const TOO_DEEP: u8 = 41;
 
 /// Opens a level.
-pub fn begin<R: Rel>(alloc: Global, rel: &mut R) -> Result<(), StepFault>
+pub(crate) fn begin<R: Rel>(alloc: Global, rel: &mut R) -> Result<(), StepFault>
     requires ready { IsTrue (R.is_ready rel.old) }
     ensures done { (st : State) → Stands (R.db rel.old) (R.saved rel.old) st
         → Goes (begins st) result (R.told rel.old) (R.told rel.new) (R.db rel.new)
@@ -36,7 +36,7 @@ pub fn begin<R: Rel>(alloc: Global, rel: &mut R) -> Result<(), StepFault>
 }
 
 /// Takes up the database that the last level saved.
-pub fn roll_back<R: Rel>(alloc: Global, rel: &mut R, base: u32) -> Result<(), StepFault>
+pub(crate) fn roll_back<R: Rel>(alloc: Global, rel: &mut R, base: u32) -> Result<(), StepFault>
     requires based { base ≤ length (R.saved rel.old) }
     ensures done { (st : State) → Stands (R.db rel.old) (R.saved rel.old) st → base ≡ st.base
         → Goes (rolls_back st) result (R.told rel.old) (R.told rel.new) (R.db rel.new)
@@ -101,7 +101,7 @@ fn show_commit<R: Rel>(alloc: Global, rel: &mut R, number: u64) -> Result<(), St
 
 /// Closes a level, and answers how many outermost commits there were. The end of the outermost level is a commit, whose line
 /// is shown where that is asked for.
-pub fn close<R: Rel>(
+pub(crate) fn close<R: Rel>(
     alloc: Global,
     rel: &mut R,
     commits: u64,
@@ -127,7 +127,7 @@ pub fn close<R: Rel>(
 }
 
 /// Carries out a statement on tables, and shows its text.
-pub fn carry_out<R: Rel>(
+pub(crate) fn carry_out<R: Rel>(
     alloc: Global,
     rel: &mut R,
     statement: &Statement,

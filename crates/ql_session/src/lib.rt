@@ -3,6 +3,7 @@
 
 mod fault;
 mod levels;
+mod session;
 
 pub use fault::StepFault;
-pub use levels::{begin, carry_out, close, roll_back};
+pub use session::Session;
