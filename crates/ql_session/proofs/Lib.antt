@@ -1,3 +1,4 @@
 pub mod Standing
 pub mod Carrying
 pub mod Moving
+pub mod Unwinding

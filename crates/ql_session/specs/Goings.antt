@@ -6,7 +6,7 @@ use Rattle.ql_exec.specs.declared.fault.ExecFault.{ExecFault}
 use Rattle.ql_exec.specs.declared.fault.ExecFault.TheVariants as exec
 use Rattle.ql_rel.specs.declared.db.Db.{Db}
 use Rattle.ql_rel.specs.Events.{Event, shown_text}
-use Rattle.ql_session.specs.Sessions.{State}
+use Rattle.ql_session.specs.Sessions.{State, given_up}
 use Rattle.ql_session.specs.declared.fault.StepFault.{StepFault}
 use Rattle.ql_session.specs.declared.fault.StepFault.TheVariants as step
 
@@ -74,3 +74,9 @@ abbrev pub Moves : {T : Type 0} → Answer (List Event × State) → Result T St
 Moves answer (Ok _) before now held levels counted own = Moved answer before now held levels counted own
 Moves answer (Err (step.Refused r)) before now held levels counted own = (answer ≡ Err r) × (now ≡ before)
 Moves answer (Err (step.Trouble _)) before now held levels counted own = ShowsFront (text_of answer) before now
+
+-- a step of a session is done, or it ends the session: with this refusal and nothing shown, and the database is the kept one; or with a trouble before which a front of its text was shown
+abbrev pub Ends : {T : Type 0} → Answer (List Event × State) → State → Result T StepFault → (before now : Told) → Option Db → List (Option Db) → (counted own : ℕ) → Type 0
+Ends answer st (Ok _) before now held levels counted own = Moved answer before now held levels counted own
+Ends answer st (Err (step.Refused r)) before now held levels counted own = (answer ≡ Err r) × (now ≡ before) × IsAt held levels counted own (given_up st)
+Ends answer st (Err (step.Trouble _)) before now held levels counted own = ShowsFront (text_of answer) before now

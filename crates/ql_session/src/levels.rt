@@ -1,5 +1,5 @@
 //! Levels that open and close.
-ghost use Rattle.std.specs.Prelude.{◌≡◌, ◌+◌, ◌^◌, ◌<◌, ◌≤◌, ◌++◌, ◌&&◌, ◌==◌, IsTrue, length, drop, codes, decimal, OnOk};
+ghost use Rattle.std.specs.Prelude.{◌≡◌, [], Some, ◌+◌, ◌^◌, ◌<◌, ◌≤◌, ◌++◌, ◌&&◌, ◌==◌, IsTrue, length, drop, codes, decimal, OnOk};
 ghost use Rattle.ql_syntax.specs.ReadsBack.{IsReadBack};
 ghost use Rattle.ql_session.specs.Goings.{Closes, Goes, ShowsLine, Stands};
 ghost use Rattle.ql_session.specs.Sessions.{State, begins, carries, closed, commit_line, needs_level, rolls_back};
@@ -20,6 +20,9 @@ pub(crate) const NO_TRANSACTION: u8 = 40;
 
 /// One level too many.
 pub(crate) const TOO_DEEP: u8 = 41;
+
+/// A level is open at the end that the script opened.
+pub(crate) const UNBALANCED: u8 = 42;
 
 /// Opens a level.
 pub(crate) fn begin<R: Rel>(alloc: Global, rel: &mut R) -> Result<(), StepFault>
@@ -146,4 +149,16 @@ pub(crate) fn carry_out<R: Rel>(
     exec(alloc, rel, statement, with_names, &mut text)?;
     show_all(rel, text.as_slice())?;
     Ok(())
+}
+
+/// Closes all levels: the database is that of the last outermost commit.
+pub(crate) fn roll_back_all<R: Rel>(rel: &mut R)
+    ensures db { (st : State) → Stands (R.db rel.old) (R.saved rel.old) st
+        → R.db rel.new ≡ Some st.kept }
+    ensures saved { R.saved rel.new ≡ [] }
+    ensures told { R.told rel.new ≡ R.told rel.old }
+{
+    'levels: while rel.depth() > 0 {
+        rel.rollback();
+    }
 }
