@@ -17,14 +17,15 @@ use Rattle.ql_rel.specs.SelectRows.{select_text}
 use Rattle.ql_rel.specs.StatementEffects.{statement_effect}
 use Rattle.ql_rel.specs.StatementPlans.{statement_plan}
 use Rattle.ql_exec.specs.Carries.{Did, Does}
-use Rattle.ql_exec.specs.Depths.{IsDeepEnough}
+use Rattle.ql_exec.specs.Depths.{IsDeepEnough, LeavesDb}
 use Rattle.ql_exec.specs.declared.fault.ExecFault.{ExecFault}
 use Rattle.ql_exec.specs.declared.fault.ExecFault.TheVariants as exec
-use Rattle.ql_session.specs.Goings.{Goes, Stands, Went, outermost, step_fault_of, text_of}
+use Rattle.ql_session.specs.Goings.{Goes, Keeps, Stands, Went, outermost, step_fault_of, text_of}
 use Rattle.ql_session.specs.Sessions.{State, carries, needs_level, no_transaction, shown, with_db}
 use Rattle.ql_session.specs.declared.fault.StepFault.{StepFault}
 use Rattle.ql_session.specs.declared.fault.StepFault.TheVariants as step
 use Rattle.ql_session.proofs.Standing.{levels_counted, none_shown}
+use Rattle.ql_session.proofs.Unwinding.{kept_inside, stands_kept}
 
 -- a level is open where one is asked for
 some_open : (n : ℕ) → (n == 0) ≡ false → 0 < n
@@ -113,28 +114,49 @@ carried names x st held held2 held' levels levels2 levels' start out told told2 
       stands = record { db = hh ∙ did.holds; saved = ll ∙ l ∙ h.saved; kept = kept_still names x st.db did.after st.kept did.text st.saved lack did.is h.kept };
     }
 
--- a statement that was not carried out
-not_done : (names : Bool) (x : Statement) (st : State) (f : ExecFault) (start out : List ℕ) (told : Told) (held : Option Db) (levels : List (Option Db)) (held2 : Option Db) → (needs_level x && (length st.saved == 0)) ≡ false
-    → Does {T = Unit {0}} (statement_effect names x st.db) (Err f) start out held2 → Goes {T = Unit {0}} (carries names x st) (Err (step_fault_of f)) told told held levels
-not_done names x st (exec.Refused r) start out told held levels held2 l d = (effect_then names x st false (Err r) l d, refl)
-not_done names x st (exec.Trouble t) start out told held levels held2 l d = record { count = 0; within = omega arith; told = none_shown told }
+-- a SELECT alone is carried out where no level is open
+left_alone : (x : Statement) (levels : List (Option Db)) (held held2 : Option Db) (b : Bool) → b ≡ (needs_level x && (length levels == 0)) → b ≡ false → LeavesDb x held held2 → levels ≡ [] → held2 ≡ held
+left_alone x levels held held2 b e f a n = here x (sym (ap (λ (z : List (Option Db)). needs_level x && (length z == 0)) n) ∙ sym e ∙ f) a
+  where
+    here : (y : Statement) → (needs_level y && (0 == 0)) ≡ false → LeavesDb y held held2 → held2 ≡ held
+    here s.Begin q a = absurd (cc)
+    here s.Commit q a = absurd (cc)
+    here s.Rollback q a = absurd (cc)
+    here (s.Query z) q a = a
+    here (s.CreateTable z t cs) q a = absurd (cc)
+    here (s.DropTable z t) q a = absurd (cc)
+    here (s.AddColumn t c) q a = absurd (cc)
+    here (s.DropColumn t c) q a = absurd (cc)
+    here (s.CreateIndex u z i t y) q a = absurd (cc)
+    here (s.DropIndex z i) q a = absurd (cc)
+    here (s.Insert t cs y) q a = absurd (cc)
+    here (s.Update t y f) q a = absurd (cc)
+    here (s.Delete t f) q a = absurd (cc)
+    here (s.Truncate t) q a = absurd (cc)
 
-pub stopped : (names : Bool) (x : Statement) (st : State) (held held2 held' : Option Db) (levels levels' : List (Option Db)) (start out : List ℕ) (told told2 : Told) (b : Bool) (f : ExecFault) (result : Result (Unit {0}) StepFault) → Stands held levels st → b ≡ (needs_level x && (length levels == 0)) → b ≡ false
-    → IfSome held (λ d. Does {T = Unit {0}} (statement_effect names x d) (Err f) start out held2) → told2 ≡ told → IsErrAnd result (λ g. g ≡ step_fault_of f) → Goes (carries names x st) result told told2 held' levels'
-stopped names x st held held2 held' levels levels' start out told told2 b f (Ok v) h e k d t i = absurd i
-stopped names x st held held2 held' levels levels' start out told told2 b f (Err g) h e k d t i =
-    let here : Goes {T = Unit {0}} (carries names x st) (Err (step_fault_of f)) told told held' levels' =
-    not_done names x st f start out told held' levels' held2 (no_lack x levels st b h.saved e ∙ k) (done_to names x st held (λ (o : Db). Does {T = Unit {0}} (statement_effect names x o) (Err f) start out held2) h.db d) in
-    subst (λ (z : StepFault). Goes {T = Unit {0}} (carries names x st) (Err z) told told2 held' levels') (sym i) (subst (λ (z : Told). Goes {T = Unit {0}} (carries names x st) (Err (step_fault_of f)) told z held' levels') (sym t) here)
+-- a statement that was not carried out
+not_done : (names : Bool) (x : Statement) (st : State) (f : ExecFault) (start out : List ℕ) (told : Told) (held2 : Option Db) (levels2 : List (Option Db)) → (needs_level x && (length st.saved == 0)) ≡ false
+    → Does {T = Unit {0}} (statement_effect names x st.db) (Err f) start out held2 → Keeps st.kept held2 levels2 → Goes {T = Unit {0}} st.kept (carries names x st) (Err (step_fault_of f)) told told held2 levels2
+not_done names x st (exec.Refused r) start out told held2 levels2 l d k = (effect_then names x st false (Err r) l d, refl, k)
+not_done names x st (exec.Trouble t) start out told held2 levels2 l d k = record { count = 0; within = omega arith; told = none_shown told }
+
+pub stopped : (names : Bool) (x : Statement) (st : State) (held held2 : Option Db) (levels levels2 : List (Option Db)) (start out : List ℕ) (told told2 : Told) (b : Bool) (f : ExecFault) (result : Result (Unit {0}) StepFault) → Stands held levels st → b ≡ (needs_level x && (length levels == 0)) → b ≡ false
+    → IfSome held (λ d. Does {T = Unit {0}} (statement_effect names x d) (Err f) start out held2) → LeavesDb x held held2 → levels2 ≡ levels → told2 ≡ told → IsErrAnd result (λ g. g ≡ step_fault_of f) → Goes st.kept (carries names x st) result told told2 held2 levels2
+stopped names x st held held2 levels levels2 start out told told2 b f (Ok v) h e k d a l t i = absurd i
+stopped names x st held held2 levels levels2 start out told told2 b f (Err g) h e k d a l t i =
+    let kept : Keeps st.kept held2 levels2 = kept_inside st held held2 levels levels2 h l (left_alone x levels held held2 b e k a) in
+    let here : Goes {T = Unit {0}} st.kept (carries names x st) (Err (step_fault_of f)) told told held2 levels2 =
+    not_done names x st f start out told held2 levels2 (no_lack x levels st b h.saved e ∙ k) (done_to names x st held (λ (o : Db). Does {T = Unit {0}} (statement_effect names x o) (Err f) start out held2) h.db d) kept in
+    subst (λ (z : StepFault). Goes {T = Unit {0}} st.kept (carries names x st) (Err z) told told2 held2 levels2) (sym i) (subst (λ (z : Told). Goes {T = Unit {0}} st.kept (carries names x st) (Err (step_fault_of f)) told z held2 levels2) (sym t) here)
 
 -- a device failed while the text was shown
-front_of : (answer : Answer (List Event × State)) (f : DeviceFault) (before now : Told) (held : Option Db) (levels : List (Option Db)) → ShowsFront (text_of answer) before now → Goes {T = Unit {0}} answer (Err (step.Trouble (trouble_of f))) before now held levels
-front_of answer device.Failed before now held levels h = h
-front_of answer device.NoMemory before now held levels h = h
+front_of : (kept : Db) (answer : Answer (List Event × State)) (f : DeviceFault) (before now : Told) (held : Option Db) (levels : List (Option Db)) → ShowsFront (text_of answer) before now → Goes {T = Unit {0}} kept answer (Err (step.Trouble (trouble_of f))) before now held levels
+front_of kept answer device.Failed before now held levels h = h
+front_of kept answer device.NoMemory before now held levels h = h
 
 pub half_shown : (names : Bool) (x : Statement) (st : State) (held held2 held' : Option Db) (levels levels' : List (Option Db)) (start out : List ℕ) (told told2 told' : Told) (b : Bool) (f : DeviceFault) (result : Result (Unit {0}) StepFault) → Stands held levels st → b ≡ (needs_level x && (length levels == 0)) → b ≡ false
     → IfSome held (λ d. Does {T = Unit {0}} (statement_effect names x d) (Ok tt) start out held2) → start ≡ [] → told2 ≡ told → (n : ℕ) × (n < length out) × (told' ≡ with_shown (take n out) told2) → IsErrAnd result (λ g. g ≡ step.Trouble (trouble_of f))
-    → Goes (carries names x st) result told told' held' levels'
+    → Goes st.kept (carries names x st) result told told' held' levels'
 half_shown names x st held held2 held' levels levels' start out told told2 told' b f (Ok v) h e k d z t part i = absurd i
 half_shown names x st held held2 held' levels levels' start out told told2 told' b f (Err g) h e k d z t part i =
     let did : Did (statement_effect names x st.db) start out held2 = done_to names x st held (λ (o : Db). Does {T = Unit {0}} (statement_effect names x o) (Ok tt) start out held2) h.db d in
@@ -143,4 +165,4 @@ half_shown names x st held held2 held' levels levels' start out told told2 told'
     let answer : carries names x st ≡ Ok (shown (did.text, did.after) st) = effect_then names x st false (Ok (did.text, did.after)) lack did.is in
     let front : ShowsFront out told told' = record { count = part.0; within = omega (arith, part.1); told = part.2 ∙ ap (λ (o : Told). with_shown (take part.0 out) o) t } in
     let whole : ShowsFront (text_of (carries names x st)) told told' = subst (λ (a : List ℕ). ShowsFront a told told') (text_is ∙ sym (ap text_of answer)) front in
-    subst (λ (q : StepFault). Goes {T = Unit {0}} (carries names x st) (Err q) told told' held' levels') (sym i) (front_of (carries names x st) f told told' held' levels' whole)
+    subst (λ (q : StepFault). Goes {T = Unit {0}} st.kept (carries names x st) (Err q) told told' held' levels') (sym i) (front_of st.kept (carries names x st) f told told' held' levels' whole)

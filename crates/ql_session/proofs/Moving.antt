@@ -43,14 +43,14 @@ counts x st done false (Ok d) e = (ap (commits_in 0) e, ap (base_in 0) e)
 counts x st done false (Err r) e = absurd (cc)
 
 moved_on : (names : Bool) (x : Statement) (st : State) (result : Result (Unit {0}) StepFault) (told told' : Told) (held : Option Db) (levels : List (Option Db)) (counted own : ℕ) → counted ≡ st.commits → own ≡ st.base
-    → Goes (carries names x st) result told told' held levels → Moves (carries names x st) result told told' held levels counted own
+    → Goes st.kept (carries names x st) result told told' held levels → Moves (carries names x st) st result told told' held levels counted own
 moved_on names x st (Ok v) told told' held levels counted own c b h =
     let still : (st.commits ≡ h.done.1.commits) × (st.base ≡ h.done.1.base) = counts x st h.done (needs_level x && (length st.saved == 0)) (statement_effect names x st.db) h.is in
     record { done = h.done; is = h.is; shown = h.shown; at = record { stands = h.stands; commits = c ∙ still.0; base = b ∙ still.1 } }
-moved_on names x st (Err (step.Refused r)) told told' held levels counted own c b h = h
+moved_on names x st (Err (step.Refused r)) told told' held levels counted own c b h = (h.0, h.1, h.2, c, b)
 moved_on names x st (Err (step.Trouble t)) told told' held levels counted own c b h = h
 
 pub moved_other : (names ack : Bool) (x : Statement) (st : State) (result : Result (Unit {0}) StepFault) (told told' : Told) (held : Option Db) (levels : List (Option Db)) (counted own : ℕ) → (x ≡ s.Begin → ⊥) → (x ≡ s.Commit → ⊥) → (x ≡ s.Rollback → ⊥) → counted ≡ st.commits → own ≡ st.base
-    → Goes (carries names x st) result told told' held levels → Moves (stepped names ack x st) result told told' held levels counted own
+    → Goes st.kept (carries names x st) result told told' held levels → Moves (stepped names ack x st) st result told told' held levels counted own
 moved_other names ack x st result told told' held levels counted own nb nc nr c b h =
-    subst (λ (a : Answer (List Event × State)). Moves a result told told' held levels counted own) (sym (stepped_other names ack x st nb nc nr)) (moved_on names x st result told told' held levels counted own c b h)
+    subst (λ (a : Answer (List Event × State)). Moves a st result told told' held levels counted own) (sym (stepped_other names ack x st nb nc nr)) (moved_on names x st result told told' held levels counted own c b h)

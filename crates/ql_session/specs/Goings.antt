@@ -26,6 +26,17 @@ pub record Stands (held : Option Db) (levels : List (Option Db)) (st : State) : 
   pub saved : levels ≡ map (λ (d : Db). Some d) st.saved
   pub kept : st.kept ≡ outermost st.db st.saved
 
+-- a database is kept below levels, by what they saved: it is that of the outermost one, or the held one where no level is open
+abbrev pub IsKeptBy : Db → Option Db → List Db → Type 0
+IsKeptBy kept held [] = held ≡ Some kept
+IsKeptBy kept held (d ∷ outer) = kept ≡ outermost d outer
+
+-- a relation keeps a database below its levels, whatever it holds inside them
+pub record Keeps (kept : Db) (held : Option Db) (levels : List (Option Db)) : Type 0 where
+  pub saved : List Db
+  pub are : levels ≡ map (λ (d : Db). Some d) saved
+  pub is : IsKeptBy kept held saved
+
 -- the text of a step, which shows nothing where it is refused
 abbrev pub text_of : Answer (List Event × State) → List ℕ
 text_of (Ok done) = shown_text done.0
@@ -38,11 +49,11 @@ pub record Went (step : Answer (List Event × State)) (before now : Told) (db : 
   pub shown : now ≡ with_shown (shown_text done.0) before
   pub stands : Stands db saved done.1
 
--- a step is done, or has this refusal and shows nothing, or a front of its text is shown before a trouble
-abbrev pub Goes : {T : Type 0} → Answer (List Event × State) → Result T StepFault → (before now : Told) → Option Db → List (Option Db) → Type 0
-Goes answer (Ok _) before now db saved = Went answer before now db saved
-Goes answer (Err (step.Refused r)) before now db saved = (answer ≡ Err r) × (now ≡ before)
-Goes answer (Err (step.Trouble _)) before now db saved = ShowsFront (text_of answer) before now
+-- a step is done, or has this refusal, shows nothing and keeps this database, or a front of its text is shown before a trouble
+abbrev pub Goes : {T : Type 0} → Db → Answer (List Event × State) → Result T StepFault → (before now : Told) → Option Db → List (Option Db) → Type 0
+Goes kept answer (Ok _) before now db saved = Went answer before now db saved
+Goes kept answer (Err (step.Refused r)) before now db saved = (answer ≡ Err r) × (now ≡ before) × Keeps kept db saved
+Goes kept answer (Err (step.Trouble _)) before now db saved = ShowsFront (text_of answer) before now
 
 -- a level was closed: so many outermost commits there were, the text of the step was shown, and the relation stands where the session does; or a front of the text was shown before a trouble
 abbrev pub Closes : (List Event × State) → Result ℕ StepFault → (before now : Told) → Option Db → List (Option Db) → Type 0
@@ -69,11 +80,11 @@ pub record Moved (step : Answer (List Event × State)) (before now : Told) (held
   pub shown : now ≡ with_shown (shown_text done.0) before
   pub at : IsAt held levels counted own done.1
 
--- a step of a session is done, or has this refusal and shows nothing, or a front of its text is shown before a trouble
-abbrev pub Moves : {T : Type 0} → Answer (List Event × State) → Result T StepFault → (before now : Told) → Option Db → List (Option Db) → (counted own : ℕ) → Type 0
-Moves answer (Ok _) before now held levels counted own = Moved answer before now held levels counted own
-Moves answer (Err (step.Refused r)) before now held levels counted own = (answer ≡ Err r) × (now ≡ before)
-Moves answer (Err (step.Trouble _)) before now held levels counted own = ShowsFront (text_of answer) before now
+-- a step of a session is done, or has this refusal, shows nothing, keeps the kept database and counts nothing, or a front of its text is shown before a trouble
+abbrev pub Moves : {T : Type 0} → Answer (List Event × State) → State → Result T StepFault → (before now : Told) → Option Db → List (Option Db) → (counted own : ℕ) → Type 0
+Moves answer st (Ok _) before now held levels counted own = Moved answer before now held levels counted own
+Moves answer st (Err (step.Refused r)) before now held levels counted own = (answer ≡ Err r) × (now ≡ before) × Keeps st.kept held levels × (counted ≡ st.commits) × (own ≡ st.base)
+Moves answer st (Err (step.Trouble _)) before now held levels counted own = ShowsFront (text_of answer) before now
 
 -- a step of a session is done, or it ends the session: with this refusal and nothing shown, and the database is the kept one; or with a trouble before which a front of its text was shown
 abbrev pub Ends : {T : Type 0} → Answer (List Event × State) → State → Result T StepFault → (before now : Told) → Option Db → List (Option Db) → (counted own : ℕ) → Type 0

@@ -1,7 +1,8 @@
 //! Levels that open and close.
 ghost use Rattle.std.specs.Prelude.{◌≡◌, [], Some, ◌+◌, ◌^◌, ◌<◌, ◌≤◌, ◌++◌, ◌&&◌, ◌==◌, IsTrue, length, drop, codes, decimal, OnOk};
 ghost use Rattle.ql_syntax.specs.ReadsBack.{IsReadBack};
-ghost use Rattle.ql_session.specs.Goings.{Closes, Goes, ShowsLine, Stands};
+ghost use Rattle.ql_session.specs.Goings.{Closes, Goes, Keeps, ShowsLine, Stands};
+ghost use Rattle.ql_rel.specs.declared.db.Db.{Db};
 ghost use Rattle.ql_session.specs.Sessions.{State, begins, carries, closed, commit_line, needs_level, rolls_back};
 
 use crate::StepFault;
@@ -28,7 +29,7 @@ pub(crate) const UNBALANCED: u8 = 42;
 pub(crate) fn begin<R: Rel>(alloc: Global, rel: &mut R) -> Result<(), StepFault>
     requires ready { IsTrue (R.is_ready rel.old) }
     ensures done { (st : State) → Stands (R.db rel.old) (R.saved rel.old) st
-        → Goes (begins st) result (R.told rel.old) (R.told rel.new) (R.db rel.new)
+        → Goes st.kept (begins st) result (R.told rel.old) (R.told rel.new) (R.db rel.new)
         (R.saved rel.new) }
 {
     if rel.depth() >= MOST_LEVELS {
@@ -42,7 +43,7 @@ pub(crate) fn begin<R: Rel>(alloc: Global, rel: &mut R) -> Result<(), StepFault>
 pub(crate) fn roll_back<R: Rel>(alloc: Global, rel: &mut R, base: u32) -> Result<(), StepFault>
     requires based { base ≤ length (R.saved rel.old) }
     ensures done { (st : State) → Stands (R.db rel.old) (R.saved rel.old) st → base ≡ st.base
-        → Goes (rolls_back st) result (R.told rel.old) (R.told rel.new) (R.db rel.new)
+        → Goes st.kept (rolls_back st) result (R.told rel.old) (R.told rel.new) (R.db rel.new)
         (R.saved rel.new) }
 {
     if rel.depth() <= base {
@@ -139,7 +140,7 @@ pub(crate) fn carry_out<R: Rel>(
     requires ready { IsTrue (R.is_ready rel.old) }
     requires read { IsReadBack statement.now }
     ensures done { (st : State) → Stands (R.db rel.old) (R.saved rel.old) st
-        → Goes (carries with_names statement.now st) result (R.told rel.old) (R.told rel.new)
+        → Goes st.kept (carries with_names statement.now st) result (R.told rel.old) (R.told rel.new)
         (R.db rel.new) (R.saved rel.new) }
 {
     if lacks_level(statement, rel.depth()) {
@@ -153,8 +154,8 @@ pub(crate) fn carry_out<R: Rel>(
 
 /// Closes all levels: the database is that of the last outermost commit.
 pub(crate) fn roll_back_all<R: Rel>(rel: &mut R)
-    ensures db { (st : State) → Stands (R.db rel.old) (R.saved rel.old) st
-        → R.db rel.new ≡ Some st.kept }
+    ensures db { (kept : Db) → Keeps kept (R.db rel.old) (R.saved rel.old)
+        → R.db rel.new ≡ Some kept }
     ensures saved { R.saved rel.new ≡ [] }
     ensures told { R.told rel.new ≡ R.told rel.old }
 {

@@ -70,7 +70,7 @@ impl<R: Rel> Session<R> {
         requires based { self.old.base ≤ length (R.saved self.old.rel) }
         requires counted { self.old.commits + 1 < 2 ^ 64 }
         ensures done { (st : State) → IsAt (R.db self.old.rel) (R.saved self.old.rel)
-            self.old.commits self.old.base st → Moves (closes self.old.ack st) result
+            self.old.commits self.old.base st → Moves (closes self.old.ack st) st result
             (R.told self.old.rel) (R.told self.new.rel) (R.db self.new.rel)
             (R.saved self.new.rel) self.new.commits self.new.base }
     {
@@ -89,7 +89,7 @@ impl<R: Rel> Session<R> {
         requires read { IsReadBack statement.now }
         ensures done { (st : State) → IsAt (R.db self.old.rel) (R.saved self.old.rel)
             self.old.commits self.old.base st → Moves (stepped self.old.with_names self.old.ack
-            statement.now st) result (R.told self.old.rel) (R.told self.new.rel)
+            statement.now st) st result (R.told self.old.rel) (R.told self.new.rel)
             (R.db self.new.rel) (R.saved self.new.rel) self.new.commits self.new.base }
     {
         match statement {
@@ -154,7 +154,7 @@ impl<R: Rel> Session<R> {
         requires based { self.old.base ≤ length (R.saved self.old.rel) }
         requires counted { self.old.commits + 1 < 2 ^ 64 }
         ensures done { (st : State) → IsAt (R.db self.old.rel) (R.saved self.old.rel)
-            self.old.commits self.old.base st → Moves (finished self.old.ack st) result
+            self.old.commits self.old.base st → Moves (finished self.old.ack st) st result
             (R.told self.old.rel) (R.told self.new.rel) (R.db self.new.rel)
             (R.saved self.new.rel) self.new.commits self.new.base }
     {

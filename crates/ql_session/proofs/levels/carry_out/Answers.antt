@@ -1,5 +1,6 @@
 use Rattle.std.proofs.Common.{refl, sym, ◌∙◌}
 use Rattle.ql_session.proofs.Carrying.{deep_enough, lacks, carried, stopped, half_shown}
+use Rattle.ql_session.proofs.Unwinding.{stands_kept}
 use Rattle.ql_session.proofs.levels.carry_out.Goals as goal
 
 pub exec-requires-clause-level : goal.exec-requires-clause-level
@@ -7,11 +8,11 @@ exec-requires-clause-level g c = deep_enough c.args.statement.now _ c.lacks_leve
 
 pub returns-then-lacks_level : goal.returns-then-lacks_level
 returns-then-lacks_level g c =
-    record { done = λ st h. (lacks c.args.with_names c.args.statement.now st _ _ c.lacks_level.result c.new.result h (rw c.depth.ensures at c.lacks_level.ensures) c.if-lacks_level.true c.new.ensures, refl) }
+    record { done = λ st h. (lacks c.args.with_names c.args.statement.now st _ _ c.lacks_level.result c.new.result h (rw c.depth.ensures at c.lacks_level.ensures) c.if-lacks_level.true c.new.ensures, refl, stands_kept _ _ st h) }
 
 pub returns-in_err-exec : goal.returns-in_err-exec
 returns-in_err-exec g c =
-    record { done = λ st h. stopped c.args.with_names c.args.statement.now st _ _ _ _ _ c.new-text.result c.exec.new.out _ _ c.lacks_level.result c.in_err-exec.field-0.0 c.from_residual.result h (rw c.depth.ensures at c.lacks_level.ensures) c.if-lacks_level.false c.in_err-exec.ensures.done c.exec.ensures.leaves.2 c.from_residual.ensures.1 }
+    record { done = λ st h. stopped c.args.with_names c.args.statement.now st _ _ _ _ c.new-text.result c.exec.new.out _ _ c.lacks_level.result c.in_err-exec.field-0.0 c.from_residual.result h (rw c.depth.ensures at c.lacks_level.ensures) c.if-lacks_level.false c.in_err-exec.ensures.done c.exec.ensures.alone c.exec.ensures.leaves.0 c.exec.ensures.leaves.2 c.from_residual.ensures.1 }
 
 pub returns-in_err-show_all : goal.returns-in_err-show_all
 returns-in_err-show_all g c =
