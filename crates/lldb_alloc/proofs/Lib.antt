@@ -12,3 +12,4 @@ pub mod Finds
 pub mod Spelled
 pub mod Created
 pub mod Fulls
+pub mod Gaps

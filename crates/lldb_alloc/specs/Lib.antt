@@ -3,3 +3,4 @@ pub mod Reads
 pub mod Told
 pub mod Changes
 pub mod Room
+pub mod Releases

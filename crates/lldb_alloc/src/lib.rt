@@ -7,6 +7,7 @@ mod content;
 mod create;
 mod front;
 mod links;
+mod release;
 mod room;
 mod write;
 

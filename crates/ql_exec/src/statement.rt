@@ -6,7 +6,7 @@ ghost use Rattle.ql_rel.specs.StatementEffects.{carried};
 ghost use Rattle.ql_rel.specs.StatementPlans.{statement_plan};
 ghost use Rattle.ql_rel.specs.WellFormed.{IsWellFormed};
 ghost use Rattle.ql_exec.specs.Carries.{Does, IsCausedExec, Leaves};
-ghost use Rattle.ql_exec.specs.Depths.{IsDeepEnough};
+ghost use Rattle.ql_exec.specs.Depths.{IsDeepEnough, LeavesDb};
 
 use crate::ExecFault;
 use crate::alter::{add_column, drop_column};
@@ -39,6 +39,7 @@ pub fn carry<R: Rel>(
     requires read { IsReadBack statement.now }
     ensures done { IfSome (R.db rel.old) (λ d. Does (carried with_names statement.now plan.now d)
         result out.old out.new (R.db rel.new)) }
+    ensures alone { LeavesDb statement.now (R.db rel.old) (R.db rel.new) }
     ensures kept { OnErr result (out.new ≡ out.old) }
     ensures ready { OnOk result (R.is_ready rel.new ≡ R.is_ready rel.old) }
     ensures leaves { Leaves R.saved R.limit R.told R.left R.fixed rel.old rel.new }
