@@ -18,7 +18,7 @@ use Rattle.ql_rel.specs.declared.schema.Schema.{Schema}
 use Rattle.ql_syntax.specs.Answers.{refused, refused_at, then_with}
 use Rattle.ql_rel.specs.Changes.{row_of}
 use Rattle.ql_syntax.specs.Checked.{of_type, literal_of}
-use Rattle.ql_rel.specs.Courses.{course, committed}
+use Rattle.ql_rel.specs.Sessions.{committed, opened, session}
 use Rattle.ql_rel.specs.Databases.{empty_db}
 use Rattle.ql_rel.specs.InsertEffects.{row_from, rows_added}
 use Rattle.ql_rel.specs.Events.{Event, shows, refused_in, places_of, told_by}
@@ -209,7 +209,7 @@ two_lines = refl
 abbrev made : List Event
 made = shows [] ∷ committed true 1 (with_rows_of 1 [])
 
-table_made : (course false true 1 (s.CreateTable false (codes "t") t_columns ∷ []) empty_db).events ≡ made
+table_made : (session false true 1 (s.CreateTable false (codes "t") t_columns ∷ []) (opened false empty_db)).events ≡ made
 table_made = refl
 
 line_behind : places_of made ≡ 0 ∷ []
@@ -218,6 +218,6 @@ line_behind = refl
 commit_told : (told_by 0 made ≡ 0) × (told_by 1 made ≡ 1)
 commit_told = (refl, refl)
 
-refused_second : course false true 1 (s.CreateTable false (codes "t") t_columns ∷ s.CreateTable false (codes "t") t_columns ∷ []) empty_db
+refused_second : session false true 1 (s.CreateTable false (codes "t") t_columns ∷ s.CreateTable false (codes "t") t_columns ∷ []) (opened false empty_db)
     ≡ record { events = shows [] ∷ []; closing = refused_in 2 (record { number = 4; name = codes "t" }) }
 refused_second = refl

@@ -24,7 +24,7 @@ pub use db::{Db, Row, Rows, Table, Tables};
 pub use fault::RelFault;
 pub use fitting::is_row_of;
 pub use laws::{change_laws, form_laws};
-pub use meaning_laws::{event_laws, plan_laws};
+pub use meaning_laws::{event_laws, plan_laws, session_laws};
 pub use plan::Plan;
 pub use rel::Rel;
 pub use schema::{Index, Indexes, Schema, TableSchema, TableSchemas};
