@@ -1,5 +1,5 @@
 -- Levels that open and close.
-use Rattle.std.proofs.Common.{◌≡◌, ℕ, zero, suc, ◌+◌, ◌<◌, ◌≤◌, Bool, true, false, ◌&&◌, ◌==◌, nat_lt, cond, List, [], ◌∷◌, drop, length, Result, Ok, Err, refl, sym, ap, subst, ◌∙◌, arith}
+use Rattle.std.proofs.Common.{◌≡◌, ℕ, zero, suc, ◌+◌, ◌<◌, ◌≤◌, Bool, true, false, ◌&&◌, ◌==◌, nat_lt, cond, List, [], ◌∷◌, ◌++◌, drop, length, Result, Ok, Err, refl, sym, ap, subst, ◌∙◌, arith}
 use Rattle.std.proofs.lemmas.Bool.Decides.{nat_tests}
 use Rattle.ql_value.specs.declared.refusal.Refusal.{Refusal}
 use Rattle.ql_syntax.specs.declared.statement.Statement.{Statement}
@@ -178,8 +178,12 @@ one_alone : (ack : Bool) (outer : List Db) (st : State) → length outer ≡ 0 �
 one_alone ack [] st e = ap length (commits_join (closed ack [] st).0 []) ∙ (let n = no_lines ack (suc st.commits) in rw n refl)
 one_alone ack (d ∷ outer) st e = absurd (omega (arith, e))
 
+-- what follows the end of a script
+abbrev at_end : ℕ → Answer Done → Course
+at_end number answer = goes_on number answer (λ _. record { events = []; closing = completed })
+
 end_once : (ack : Bool) (number : ℕ) (st : State) → IsLevelled st → st.base ≡ 1
-    → CommitsOnce (goes_on number (finished ack st) (λ _. record { events = []; closing = completed })).closing (commits_of (goes_on number (finished ack st) (λ _. record { events = []; closing = completed })).events)
+    → CommitsOnce (at_end number (finished ack st)).closing (commits_of (at_end number (finished ack st)).events)
 end_once ack number st l b = here (is_closed st) (λ e. one_alone ack (drop 1 st.saved) st (alone e))
   where
     one_left : (saved : List Db) → length saved ≡ 1 → length (drop 1 saved) ≡ 0
@@ -190,10 +194,8 @@ end_once ack number st l b = here (is_closed st) (λ e. one_alone ack (drop 1 st
     own : (base : ℕ) → base ≡ 1 → (length (commits_of ((closed ack (drop 1 st.saved) st).0 ++ [])) ≡ 1) → length (commits_of ((ended ack base st).0 ++ [])) ≡ 1
     own zero e h = absurd (omega (arith, e))
     own (suc n) e h = h
-    abbrev after : Answer Done → Course
-    after answer = goes_on number answer (λ _. record { events = []; closing = completed })
     here : (c : Bool) → (c ≡ true → length (commits_of ((closed ack (drop 1 st.saved) st).0 ++ [])) ≡ 1)
-        → CommitsOnce (after (cond c (Ok (ended ack st.base st)) (refused unbalanced))).closing (commits_of (after (cond c (Ok (ended ack st.base st)) (refused unbalanced))).events)
+        → CommitsOnce (at_end number (cond c (Ok (ended ack st.base st)) (refused unbalanced))).closing (commits_of (at_end number (cond c (Ok (ended ack st.base st)) (refused unbalanced))).events)
     here true h = own st.base b (h refl)
     here false h = refl
 

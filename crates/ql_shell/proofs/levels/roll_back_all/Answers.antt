@@ -1,0 +1,14 @@
+use Rattle.std.proofs.Common.{◌∙◌}
+use Rattle.ql_shell.proofs.Unwinding.{keeps_on, keeps_end}
+use Rattle.ql_shell.proofs.levels.roll_back_all.Goals as goal
+
+pub levels-preserved : goal.levels-preserved
+levels-preserved g c =
+    let open_level : _ = rw c.depth.ensures at c.levels-test.true in
+    record {
+      outer = λ kept h. keeps_on kept _ _ _ _ (c.levels.invariant.outer kept h) open_level c.rollback.ensures.db c.rollback.ensures.saved;
+      told = c.rollback.ensures.told ∙ c.levels.invariant.told;
+    }
+
+pub returns-clause-db : goal.returns-clause-db
+returns-clause-db g c = λ kept h. keeps_end kept _ _ (c.levels.invariant.outer kept h) (rw c.depth.ensures at c.levels-test.false)
