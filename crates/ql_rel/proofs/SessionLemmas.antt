@@ -114,10 +114,13 @@ step_levelled with_names ack statement st done l e =
   where
     begun : IfDone (λ (d : Done). IsLevelled d.1) (begins st)
     begun = where_open (λ (d : Done). IsLevelled d.1) (nat_lt (length st.saved) most_levels) too_deep ([], record { db = st.db; saved = st.db ∷ st.saved; kept = st.kept; commits = st.commits; base = st.base }) (λ t. record { based = omega (arith, l.based); within = grind (arith, nat_tests) })
+
     ended_level : IfDone (λ (d : Done). IsLevelled d.1) (closes ack st)
     ended_level = unless_closed (λ (d : Done). IsLevelled d.1) (is_closed st) no_transaction (closed ack (drop 1 st.saved) st) (λ t. closed_levelled ack st.saved st refl (over_base st t l.based) l.within)
+
     back : IfDone (λ (d : Done). IsLevelled d.1) (rolls_back st)
     back = unless_closed (λ (d : Done). IsLevelled d.1) (is_closed st) no_transaction ([], rolled_back st.saved st) (λ t. rolled_levelled st.saved st refl (over_base st t l.based) l.within)
+
     same : (text : List ℕ × Db) → IsLevelled (shown text st).1
     same text = record { based = l.based; within = l.within }
 
@@ -127,10 +130,13 @@ step_told with_names ack statement st done e =
   where
     begun : IfDone (λ (d : Done). IsTold d st) (begins st)
     begun = where_open (λ (d : Done). IsTold d st) (nat_lt (length st.saved) most_levels) too_deep ([], record { db = st.db; saved = st.db ∷ st.saved; kept = st.kept; commits = st.commits; base = st.base }) (λ t. record { kept = refl; counted = same_told st.commits; base = refl })
+
     ended_level : IfDone (λ (d : Done). IsTold d st) (closes ack st)
     ended_level = unless_closed (λ (d : Done). IsTold d st) (is_closed st) no_transaction (closed ack (drop 1 st.saved) st) (λ t. closed_told ack (drop 1 st.saved) st)
+
     back : IfDone (λ (d : Done). IsTold d st) (rolls_back st)
     back = unless_closed (λ (d : Done). IsTold d st) (is_closed st) no_transaction ([], rolled_back st.saved st) (λ t. rolled_told st.saved st)
+
     same : (text : List ℕ × Db) → IsTold (shown text st) st
     same text = record { kept = refl; counted = same_told st.commits; base = refl }
 
@@ -148,8 +154,10 @@ back_again st since e b h = here (is_closed since) (not_closed (ap length e))
   where
     not_closed : length since.saved ≡ suc (length st.saved) → is_closed since ≡ false
     not_closed n = grind (arith, nat_tests, n, b, h)
+
     given : Answer Done
     given = Ok ([], record { db = st.db; saved = st.saved; kept = since.kept; commits = since.commits; base = st.base })
+
     here : (c : Bool) → c ≡ false → ◌≡◌ {A = Answer Done} (cond c (refused no_transaction) (Ok ([], rolled_back since.saved since))) given
     here true q = absurd (cc)
     here false q = rw e (rw b refl)
@@ -169,8 +177,10 @@ step_none with_names ack statement st done l b e =
   where
     begun : IfDone (λ (d : Done). commits_of d.0 ≡ []) (begins st)
     begun = where_open (λ (d : Done). commits_of d.0 ≡ []) (nat_lt (length st.saved) most_levels) too_deep ([], record { db = st.db; saved = st.db ∷ st.saved; kept = st.kept; commits = st.commits; base = st.base }) (λ t. refl)
+
     ended_level : IfDone (λ (d : Done). commits_of d.0 ≡ []) (closes ack st)
     ended_level = unless_closed (λ (d : Done). commits_of d.0 ≡ []) (is_closed st) no_transaction (closed ack (drop 1 st.saved) st) (λ t. closed_quiet ack st t l b)
+
     back : IfDone (λ (d : Done). commits_of d.0 ≡ []) (rolls_back st)
     back = unless_closed (λ (d : Done). commits_of d.0 ≡ []) (is_closed st) no_transaction ([], rolled_back st.saved st) (λ t. refl)
 
@@ -189,11 +199,14 @@ end_once ack number st l b = here (is_closed st) (λ e. one_alone ack (drop 1 st
     one_left : (saved : List Db) → length saved ≡ 1 → length (drop 1 saved) ≡ 0
     one_left [] e = refl
     one_left (d ∷ outer) e = omega (arith, e)
+
     alone : is_closed st ≡ true → length (drop 1 st.saved) ≡ 0
     alone e = one_left st.saved (grind (arith, nat_tests, b))
+
     own : (base : ℕ) → base ≡ 1 → (length (commits_of ((closed ack (drop 1 st.saved) st).0 ++ [])) ≡ 1) → length (commits_of ((ended ack base st).0 ++ [])) ≡ 1
     own zero e h = absurd (omega (arith, e))
     own (suc n) e h = h
+
     here : (c : Bool) → (c ≡ true → length (commits_of ((closed ack (drop 1 st.saved) st).0 ++ [])) ≡ 1)
         → CommitsOnce (at_end number (cond c (Ok (ended ack st.base st)) (refused unbalanced))).closing (commits_of (at_end number (cond c (Ok (ended ack st.base st)) (refused unbalanced))).events)
     here true h = own st.base b (h refl)

@@ -14,8 +14,10 @@ most_levels = 256
 -- the refusals of levels: none is open that the script opened, one too many, one left open at the end
 abbrev pub no_transaction : ℕ
 no_transaction = 40
+
 abbrev pub too_deep : ℕ
 too_deep = 41
+
 abbrev pub unbalanced : ℕ
 unbalanced = 42
 
