@@ -1,1 +1,0 @@
-use Rattle.ql_shell.proofs.script_run.carry_out.Goals as goal
