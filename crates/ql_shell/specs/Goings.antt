@@ -104,7 +104,7 @@ abbrev pub LeavesRest : {S A B C : Type 0} → (S → A) → (S → B) → (S �
 LeavesRest limit left fixed before now = (limit now ≡ limit before) × (left now ≡ left before) × (fixed now ≡ fixed before)
 
 -- a session may go on: its relation is ready, one level at most opened by itself, and that one is open
-pub record MayGoOn (ready : Bool) (levels : List (Option Db)) (own : ℕ) : Type 0 where
-  pub ready : IsTrue ready
+pub record MayGoOn (able : Bool) (levels : List (Option Db)) (own : ℕ) : Type 0 where
+  pub ready : IsTrue able
   pub single : own ≤ 1
   pub based : own ≤ length levels

@@ -1,5 +1,5 @@
 //! A run: what the words ask for, carried out and warned of.
-ghost use Rattle.std.specs.Prelude.{◌≡◌, ◌⊎◌, ℕ, ◌+◌, ◌<◌, ◌≤◌, ◌×◌, All, IsTrue, [], List, length, map, Option, None, Some, Result, Err, IfOk, IfErr, OnOk};
+ghost use Rattle.std.specs.Prelude.{◌≡◌, ◌⊎◌, ℕ, ◌+◌, ◌<◌, ◌≤◌, All, IsTrue, [], List, length, map, Option, None, Some, Result, Err, IfOk, IfErr, OnOk};
 ghost use Rattle.std.specs.String.{string_bytes};
 ghost use Rattle.ql_edge.specs.Cause.{Rose};
 ghost use Rattle.ql_edge.specs.Frame.{Keeps};

@@ -1,5 +1,5 @@
 //! A script, carried out statement by statement on any tables.
-ghost use Rattle.std.specs.Prelude.{◌≡◌, [], ◌×◌, ◌+◌, ◌^◌, ◌<◌, ◌≤◌, Bool, IsTrue, length, if◌then◌else◌, Some, IfErr, OnOk, OnErr};
+ghost use Rattle.std.specs.Prelude.{◌≡◌, [], ◌+◌, ◌^◌, ◌<◌, ◌≤◌, Bool, IsTrue, length, if◌then◌else◌, Some, IfErr, OnOk, OnErr};
 ghost use Rattle.lldb_base.specs.declared.trouble.Trouble.TheVariants as trouble;
 ghost use Rattle.ql_syntax.specs.ReadsBack.{IsReadBack};
 ghost use Rattle.ql_rel.specs.declared.db.Db.{Db};

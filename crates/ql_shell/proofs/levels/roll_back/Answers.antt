@@ -3,8 +3,8 @@ use Rattle.ql_shell.proofs.Unwinding.{stands_kept}
 use Rattle.std.proofs.Common.{refl}
 use Rattle.ql_shell.proofs.levels.roll_back.Goals as goal
 
-pub returns-then-depth-base : goal.returns-then-depth-base
-returns-then-depth-base g c = record { done = λ st s b. (no_level st _ _ c.args.base c.new.result s b c.requires.based (rw c.depth.ensures at c.if-depth-base.true) c.new.ensures, refl, stands_kept _ _ st s) }
+pub returns-then-depth-base-clause-done : goal.returns-then-depth-base-clause-done
+returns-then-depth-base-clause-done g c = λ st s b. (no_level st _ _ c.args.base c.new.result s b c.requires.on.based (rw c.depth.ensures at c.if-depth-base.true) c.new.ensures, refl, stands_kept _ _ st s)
 
-pub returns : goal.returns
-returns g c = record { done = λ st s b. went_back st _ _ _ _ _ _ c.args.base s b (rw c.depth.ensures at c.if-depth-base.false) c.rollback.ensures.db c.rollback.ensures.saved c.rollback.ensures.told }
+pub returns-clause-done : goal.returns-clause-done
+returns-clause-done g c = λ st s b. went_back st _ _ _ _ _ _ c.args.base s b (rw c.depth.ensures at c.if-depth-base.false) c.rollback.ensures.db c.rollback.ensures.saved c.rollback.ensures.told

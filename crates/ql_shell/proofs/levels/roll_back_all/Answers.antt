@@ -8,6 +8,8 @@ levels-preserved g c =
     record {
       outer = λ kept h. keeps_on kept _ _ _ _ (c.levels.invariant.outer kept h) open_level c.rollback.ensures.db c.rollback.ensures.saved;
       told = c.rollback.ensures.told ∙ c.levels.invariant.told;
+      leaves = (c.rollback.ensures.limit ∙ c.levels.invariant.leaves.0, c.rollback.ensures.left ∙ c.levels.invariant.leaves.1, c.rollback.ensures.fixed ∙ c.levels.invariant.leaves.2);
+      faults = c.rollback.ensures.faults ∙ c.levels.invariant.faults;
     }
 
 pub returns-clause-db : goal.returns-clause-db
