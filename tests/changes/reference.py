@@ -1,9 +1,10 @@
 """What statements do to tables, a second time: CREATE TABLE, ALTER TABLE, INSERT of rows, UPDATE, DELETE, TRUNCATE and DROP
-TABLE over columns of int64, and SELECT of fields over one table.
+TABLE over columns of int64, SELECT of fields over one table, and levels of transactions.
 
 An expression is a pair: its text, and a function of a row (a dict of names, with "id()") that gives its value, None for NULL,
 or raises `Refused`. It is written from docs/LANGUAGE.md and not from the program.
 """
+import copy
 import random
 
 from values.reference import COMPARED, EXACT, wrapped
@@ -156,19 +157,46 @@ class Tables:
 
 
 class Script:
-    """A random script, what it shows, and the line that it warns."""
+    """A random script, what it shows, and the line that it warns. A bare one has no level that opens by itself."""
 
     def __init__(self, seed):
         self.source = random.Random(seed)
         self.tables, self.texts, self.shown, self.warned = Tables(), [], [], ""
-        for count in range(1, self.source.randint(5, 30) + 1):
-            text, act = self.statement()
+        self.bare = self.source.random() < 0.3
+        self.saved = [] if self.bare else [copy.deepcopy(self.tables)]
+        self.base = len(self.saved)
+        count = self.source.randint(5, 30)
+        while len(self.texts) < count or len(self.saved) > self.base and self.source.random() < 0.95:
+            level = len(self.texts) >= count or self.source.random() < (0.1 if self.saved else 0.8)
+            text, act = self.level(len(self.texts) >= count) if level else self.statement()
             self.texts.append(text)
             try:
+                if not self.saved and not text.startswith(("SELECT", "BEGIN")):
+                    raise Refused("40 NoTransaction")
                 self.shown += act() or []
             except Refused as refusal:
-                self.warned = f"ql: statement {count}: {refusal}"
-                break
+                self.warned = f"ql: statement {len(self.texts)}: {refusal}"
+                return
+        if len(self.saved) > self.base:
+            self.warned = f"ql: statement {len(self.texts) + 1}: 42 Unbalanced"
+
+    def level(self, ends):
+        """A statement that opens a level or closes one; seldom one that closes a level which the script did not open."""
+        is_open = len(self.saved) > self.base
+        if not ends and self.source.random() < (0.4 if is_open else 0.99):
+            return "BEGIN TRANSACTION", self.begin
+        commits = self.source.random() < 0.5
+        return "COMMIT" if commits else "ROLLBACK", lambda: self.end(commits)
+
+    def begin(self):
+        self.saved.append(copy.deepcopy(self.tables))
+
+    def end(self, commits):
+        if len(self.saved) == self.base:
+            raise Refused("40 NoTransaction")
+        before = self.saved.pop()
+        if not commits:
+            self.tables = before
 
     def name(self):
         """A table that is there, or seldom another one."""

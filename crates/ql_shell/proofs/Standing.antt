@@ -44,3 +44,19 @@ pub went_back : (st : State) (held held' : Option Db) (levels levels' : List (Op
 went_back st held held' levels levels' told told' base s b l h d t =
     let apart : is_closed st ≡ false = open_at st base (length levels) (levels_counted levels st s.saved) b l in
     record { done = ([], rolled_back st.saved st); is = rw apart refl; shown = t ∙ none_shown told; stands = back_to st.saved st held' levels levels' s.saved s.kept (omega (arith, l)) h d }
+
+-- a level is closed that the script opened
+pub one_fewer : (own : ℕ) (levels levels' : List (Option Db)) → levels' ≡ drop 1 levels → own < length levels → own ≤ length levels'
+one_fewer own [] levels' e h = absurd (omega (arith, h))
+one_fewer own (d ∷ levels) levels' e h = omega (arith, ap length e, h)
+
+-- no level is open where there are none
+pub none_open : (levels : List (Option Db)) → length levels ≤ 0 → levels ≡ []
+none_open [] h = refl
+none_open (d ∷ levels) h = absurd (omega (arith, h))
+
+-- the only level is closed
+pub last_closed : (levels levels' : List (Option Db)) → levels' ≡ drop 1 levels → length levels ≤ 1 → levels' ≡ []
+last_closed [] levels' e h = e
+last_closed (d ∷ []) levels' e h = e
+last_closed (d ∷ x ∷ levels) levels' e h = absurd (omega (arith, h))
