@@ -21,7 +21,7 @@ const MOST_LEVELS: u32 = 256;
 pub const NO_TRANSACTION: u8 = 40;
 
 /// One level too many.
-const TOO_DEEP: u8 = 41;
+pub const TOO_DEEP: u8 = 41;
 
 /// A level is open at the end that the script opened.
 pub const UNBALANCED: u8 = 42;
