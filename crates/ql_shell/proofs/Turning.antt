@@ -2,6 +2,8 @@
 use Rattle.std.proofs.Common.{◌≡◌, ℕ, suc, ◌+◌, ◌≤◌, Bool, List, [], ◌∷◌, ◌++◌, length, take, map, Option, Some, Result, Ok, Err, refl, sym, ap, subst, ◌∙◌, append_assoc, append-nil, length-append, arith}
 use Rattle.std.proofs.Math.Seq.{take-append-add}
 use Rattle.ql_edge.specs.Told.{Told, with_shown, ShowsFront}
+use Rattle.lldb_base.specs.declared.trouble.Trouble.{Trouble}
+use Rattle.lldb_base.specs.declared.trouble.Trouble.TheVariants as trouble
 use Rattle.ql_syntax.specs.declared.statement.Statement.{Statement}
 use Rattle.ql_syntax.specs.Answers as rel
 use Rattle.ql_value.specs.declared.refusal.Refusal.{Refusal}
@@ -113,7 +115,7 @@ kept_at laws all first before now now' number answer more st (step.Trouble t) he
     no_fault e = subst IsFinal e final
     no_memory : status ≡ NoMemory → ⊥
     no_memory e = subst IsFinal e final
-    not_final : (t : _) → EndsBy t status → ⊥
+    not_final : (t : Trouble) → EndsBy t status → ⊥
     not_final trouble.Failed e = no_fault e
     not_final trouble.NoMemory e = no_memory e
     not_final (trouble.Full _ _) e = e

@@ -13,11 +13,11 @@ pub record ShowsText (before now : Told) : Type 0 where
   pub told : now ≡ with_shown text before
 
 -- the text of the first events of a course was shown, and this is left of it; the database that they keep is this one
-pub record RunsOn (all : Course) (first : Db) (before now : Told) (left : Course) (kept : Db) : Type 0 where
+pub record RunsOn (all : Course) (first : Db) (before now : Told) (left : Course) (held : Db) : Type 0 where
   pub done : List Event
   pub told : now ≡ with_shown (shown_text done) before
   pub whole : all ≡ preceded_by done left
-  pub kept : kept ≡ kept_after first done
+  pub kept : held ≡ kept_after first done
 
 -- what is left is what these statements mean from where the session stands, the first of them being of this number
 pub record RunsFrom (names ack : Bool) (all : Course) (first : Db) (before now : Told) (number : ℕ) (items : List Statement) (held : Option Db) (levels : List (Option Db)) (counted own : ℕ) : Type 0 where

@@ -12,3 +12,24 @@ use Rattle.ql_shell.proofs.script_run.carry_on.Goals as goal
 none_left : (xs : List Statement) → length xs ≡ 0 → xs ≡ []
 none_left [] e = refl
 none_left (x ∷ xs) e = absurd (omega (arith, e))
+
+pub statements-preserved : goal.statements-preserved
+statements-preserved g c =
+    let steps = c.in-Some.ensures.steps in
+    let inv = c.statements.invariant in
+    record {
+      can_next = tt;
+      is_finite = tt;
+      items = omega (arith, ap length steps.0, steps.1, inv.items);
+      counted = omega (arith, steps.1, inv.counted);
+      small = inv.small;
+      commits = omega (arith, c.in-Ok.ensures.counts, inv.commits);
+      on = c.in-Ok.ensures.on;
+      read = All-tail IsReadBack c.in-Some.statement _ (subst (All IsReadBack) steps.0 inv.read);
+      runs = λ st h. from_on c.args.script.now.with_names c.args.script.now.ack c.event_laws.ensures c.session_laws.ensures (session c.args.script.now.with_names c.args.script.now.ack 1 c.args.statements st) st.kept _ _ _
+          (c.statements.number + 1) (c.statements.number + 1 + 1) _ c.in-Some.statement _ _ _ _ _ _ _ _ _ steps.0 (add-one (c.statements.number + 1)) (inv.runs st h) (λ t a. rw (← inv.with_names, ← inv.ack) (c.in-Ok.ensures.done t a));
+      ack = c.in-Ok.ensures.ack ∙ inv.ack;
+      with_names = c.in-Ok.ensures.with_names ∙ inv.with_names;
+      leaves = (c.in-Ok.ensures.leaves.0 ∙ inv.leaves.0, c.in-Ok.ensures.leaves.1 ∙ inv.leaves.1, c.in-Ok.ensures.leaves.2 ∙ inv.leaves.2);
+      faults = c.in-Ok.ensures.cause ∙ inv.faults;
+    }
