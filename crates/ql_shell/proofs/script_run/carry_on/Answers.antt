@@ -33,3 +33,27 @@ statements-preserved g c =
       leaves = (c.in-Ok.ensures.leaves.0 ∙ inv.leaves.0, c.in-Ok.ensures.leaves.1 ∙ inv.leaves.1, c.in-Ok.ensures.leaves.2 ∙ inv.leaves.2);
       faults = c.in-Ok.ensures.cause ∙ inv.faults;
     }
+
+pub returns-in-Err-clause-gives : goal.returns-in-Err-clause-gives
+returns-in-Err-clause-gives g c = λ st h.
+    let inv = c.statements.invariant in
+    (from_stopped c.args.script.now.with_names c.args.script.now.ack c.event_laws.ensures (session c.args.script.now.with_names c.args.script.now.ack 1 c.args.statements st) st.kept _ _ _ (c.statements.number + 1) _ c.in-Some.statement _ c.in-Err.fault _ _ _ _ _ _ _ _ c.stop_status.result
+    c.in-Some.ensures.steps.0 (inv.runs st h) (λ t a. rw (← inv.with_names, ← inv.ack) (c.in-Err.ensures.done t a)) c.stop_status.ensures).0
+
+pub returns-in-Ok-finish-clause-gives : goal.returns-in-Ok-finish-clause-gives
+returns-in-Ok-finish-clause-gives g c = λ st h.
+    let inv = c.statements.invariant in
+    (from_finished c.args.script.now.with_names c.args.script.now.ack c.event_laws.ensures c.session_laws.ensures (session c.args.script.now.with_names c.args.script.now.ack 1 c.args.statements st) st.kept _ _ _ (c.statements.number + 1) _ _ _ _ _ _ _ _ _
+    (none_left _ (sym inv.items ∙ c.in-None.ensures.steps.0)) (inv.runs st h) (λ t a. rw (← inv.ack) (c.in-Ok-finish.ensures.done t a)) c.in-Ok-finish.ensures.closed).0
+
+pub returns-in-Ok-finish-clause-kept : goal.returns-in-Ok-finish-clause-kept
+returns-in-Ok-finish-clause-kept g c = λ st h final.
+    let inv = c.statements.invariant in
+    (from_finished c.args.script.now.with_names c.args.script.now.ack c.event_laws.ensures c.session_laws.ensures (session c.args.script.now.with_names c.args.script.now.ack 1 c.args.statements st) st.kept _ _ _ (c.statements.number + 1) _ _ _ _ _ _ _ _ _
+    (none_left _ (sym inv.items ∙ c.in-None.ensures.steps.0)) (inv.runs st h) (λ t a. rw (← inv.ack) (c.in-Ok-finish.ensures.done t a)) c.in-Ok-finish.ensures.closed).1
+
+pub returns-in-Err-finish-clause-gives : goal.returns-in-Err-finish-clause-gives
+returns-in-Err-finish-clause-gives g c = λ st h.
+    let inv = c.statements.invariant in
+    (from_unfinished c.args.script.now.with_names c.args.script.now.ack c.event_laws.ensures (session c.args.script.now.with_names c.args.script.now.ack 1 c.args.statements st) st.kept _ _ _ (c.statements.number + 1) _ c.in-Err-finish.fault _ _ _ _ _ _ _ _ c.stop_status-in-Err-finish.result
+    (none_left _ (sym inv.items ∙ c.in-None.ensures.steps.0)) (inv.runs st h) (λ t a. rw (← inv.ack) (c.in-Err-finish.ensures.done t a)) c.stop_status-in-Err-finish.ensures).0
