@@ -164,3 +164,14 @@ from_finished names ack laws levelled all first before now now' number items hel
     let whole : all.events ≡ r.done = ap (λ (c : Course). c.events) r.whole ∙ append-nil r.done in
     ((ap (λ (c : Course). status_after c.closing) (sym r.whole), r.told ∙ ap (λ t. with_shown t before) (ap shown_text (sym whole))),
     db_kept held' levels' counted' own' m.done.1 m.at none ∙ ap Some (r.kept ∙ ap (kept_after first) (sym whole)))
+
+-- settings that stay are those of the first statement
+pub stops_with : (names names' ack ack' : Bool) (s : Statement) (st : State) (f : StepFault) (before now : Told) (held : Option Db) (levels : List (Option Db)) (counted own : ℕ) → names' ≡ names → ack' ≡ ack
+    → Ends {T = Unit {0}} (stepped names' ack' s st) st (Err f) before now held levels counted own → Ends {T = Unit {0}} (stepped names ack s st) st (Err f) before now held levels counted own
+stops_with names names' ack ack' s st f before now held levels counted own n a h =
+    subst (λ (z : Bool). Ends {T = Unit {0}} (stepped names z s st) st (Err f) before now held levels counted own) a
+    (subst (λ (z : Bool). Ends {T = Unit {0}} (stepped z ack' s st) st (Err f) before now held levels counted own) n h)
+
+pub unfinished_with : (ack ack' : Bool) (st : State) (f : StepFault) (before now : Told) (held : Option Db) (levels : List (Option Db)) (counted own : ℕ) → ack' ≡ ack
+    → Ends {T = Unit {0}} (finished ack' st) st (Err f) before now held levels counted own → Ends {T = Unit {0}} (finished ack st) st (Err f) before now held levels counted own
+unfinished_with ack ack' st f before now held levels counted own a h = subst (λ (z : Bool). Ends {T = Unit {0}} (finished z st) st (Err f) before now held levels counted own) a h
