@@ -1,5 +1,7 @@
 //! Tables in memory, whose text goes to a machine.
-ghost use Rattle.std.specs.Prelude.{◌≡◌};
+ghost use Rattle.std.specs.Prelude.{refl};
+ghost use Rattle.ql_mem_rel.specs.Formed.{well_formed};
+ghost use Rattle.ql_mem_rel.specs.RelLaws.{same_schema, same_first, same_then};
 
 use lldb_base::Trouble;
 use ql_edge::{DeviceFault, NoMemory, Shows};
@@ -26,10 +28,9 @@ impl<M: Shows> Shows for Pair<M> {
 
     ghost fixed = { λ p. M.fixed p.machine };
 
-    ghost same_reflexive = { λ x. ⟦<MemRel as Shows>⟧.same_reflexive x.tables };
+    ghost same_reflexive = { λ _. same_first _ _ _ _ _ _ _ _ };
 
-    ghost same_transitive = { λ x y z p q.
-        ⟦<MemRel as Shows>⟧.same_transitive x.tables y.tables z.tables p q };
+    ghost same_transitive = { λ _ _ _ p q. same_then p q };
 
     fn show(&mut self, piece: &[u8]) -> Result<u64, DeviceFault> {
         self.machine.show(piece)
@@ -136,13 +137,13 @@ impl<M: Shows> Rel for Pair<M> {
         self.tables.rollback()
     }
 
-    ghost within = { λ p. ⟦<MemRel as Rel>⟧.within p.tables };
+    ghost within = { λ p. p.tables.present.within };
 
-    ghost formed = { λ p. ⟦<MemRel as Rel>⟧.formed p.tables };
+    ghost formed = { λ p _. well_formed p.tables.present p.tables.formed };
 
-    ghost usable = { λ p. ⟦<MemRel as Rel>⟧.usable p.tables };
+    ghost usable = { λ _ _. refl };
 
-    ghost told_schema = { λ p. ⟦<MemRel as Rel>⟧.told_schema p.tables };
+    ghost told_schema = { λ p. same_schema p.tables.present };
 
-    ghost same_rel = { λ x y. ⟦<MemRel as Rel>⟧.same_rel x.tables y.tables };
+    ghost same_rel = { λ _ _ same. same };
 }
