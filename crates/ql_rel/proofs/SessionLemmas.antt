@@ -1,7 +1,6 @@
 -- Levels that open and close.
-use Rattle.std.proofs.Common.{◌≡◌, ℕ, zero, suc, ◌+◌, ◌<◌, ◌≤◌, Bool, true, false, ◌&&◌, ◌==◌, nat_lt, cond, List, [], ◌∷◌, ◌++◌, drop, length, Result, Ok, Err, refl, sym, ap, subst, ◌∙◌, arith}
+use Rattle.std.proofs.Common.{◌≡◌, ℕ, zero, suc, ◌+◌, ◌<◌, ◌≤◌, Bool, true, false, ◌&&◌, ◌==◌, nat_lt, cond, List, [], ◌∷◌, ◌++◌, drop, length, Ok, Err, refl, sym, ap, subst, ◌∙◌, arith}
 use Rattle.std.proofs.lemmas.Bool.Decides.{nat_tests}
-use Rattle.ql_value.specs.declared.refusal.Refusal.{Refusal}
 use Rattle.ql_syntax.specs.declared.statement.Statement.{Statement}
 use Rattle.ql_syntax.specs.declared.statement.Statement.TheVariants as s
 use Rattle.ql_syntax.specs.Answers.{Answer, refused, then_with}
@@ -9,7 +8,7 @@ use Rattle.ql_rel.specs.declared.db.Db.{Db}
 use Rattle.ql_rel.specs.Events.{Event, completed, Course, preceded_by, commits_of, kept_after}
 use Rattle.ql_rel.specs.SessionLaws.{IsLevelled, IsTold, CommitsOnce}
 use Rattle.ql_rel.proofs.EventLemmas.{commits_join}
-use Rattle.ql_rel.specs.Sessions.{State, most_levels, no_transaction, too_deep, unbalanced, opened, is_closed, begins, acknowledged, committed, closed, closes, rolled_back, rolls_back, needs_level, shown, carries, stepped, ended, finished, goes_on, session}
+use Rattle.ql_rel.specs.Sessions.{State, most_levels, no_transaction, too_deep, unbalanced, opened, is_closed, begins, acknowledged, closed, closes, rolled_back, rolls_back, needs_level, shown, carries, stepped, ended, finished, goes_on, session}
 use Rattle.ql_rel.specs.StatementEffects.{statement_effect}
 
 pub opened_levelled : (bare : Bool) (db : Db) → IsLevelled (opened bare db)

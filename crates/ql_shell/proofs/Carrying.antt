@@ -1,5 +1,5 @@
 -- A statement on tables, and where a session stands behind it.
-use Rattle.std.proofs.Common.{◌≡◌, ℕ, zero, suc, ◌+◌, ◌<◌, ◌≤◌, Bool, true, false, ◌&&◌, ◌==◌, cond, List, [], ◌∷◌, ◌++◌, append-nil, map, take, length, Option, Some, None, IfSome, Result, Ok, Err, refl, sym, ap, subst, ◌∙◌, arith}
+use Rattle.std.proofs.Common.{◌≡◌, ℕ, zero, suc, ◌<◌, Bool, true, false, ◌&&◌, ◌==◌, cond, List, [], ◌∷◌, ◌++◌, append-nil, map, take, length, Option, Some, IfSome, Result, Ok, Err, refl, sym, ap, subst, ◌∙◌, arith}
 use Rattle.std.specs.Prelude.{IsErrAnd}
 use Rattle.ql_edge.specs.Told.{Told, with_shown, ShowsFront}
 use Rattle.ql_edge.specs.declared.fault.DeviceFault.{DeviceFault}
@@ -12,7 +12,7 @@ use Rattle.ql_syntax.specs.declared.statement.Statement.TheVariants as s
 use Rattle.ql_rel.specs.declared.db.Db.{Db}
 use Rattle.ql_rel.specs.declared.plan.Plan.{Plan}
 use Rattle.ql_rel.specs.Databases.{schema_of}
-use Rattle.ql_rel.specs.Events.{Event, shows, shown_text}
+use Rattle.ql_rel.specs.Events.{Event}
 use Rattle.ql_rel.specs.SelectRows.{select_text}
 use Rattle.ql_rel.specs.StatementEffects.{statement_effect}
 use Rattle.ql_rel.specs.StatementPlans.{statement_plan}
@@ -21,11 +21,11 @@ use Rattle.ql_exec.specs.Depths.{IsDeepEnough, LeavesDb}
 use Rattle.ql_exec.specs.declared.fault.ExecFault.{ExecFault}
 use Rattle.ql_exec.specs.declared.fault.ExecFault.TheVariants as exec
 use Rattle.ql_shell.specs.Goings.{Goes, KeepsBelow, Stands, Went, outermost, step_fault_of, text_of}
-use Rattle.ql_rel.specs.Sessions.{State, carries, needs_level, no_transaction, shown, with_db}
+use Rattle.ql_rel.specs.Sessions.{State, carries, needs_level, no_transaction, shown}
 use Rattle.ql_shell.specs.declared.fault.StepFault.{StepFault}
 use Rattle.ql_shell.specs.declared.fault.StepFault.TheVariants as step
 use Rattle.ql_shell.proofs.Standing.{levels_counted, none_shown}
-use Rattle.ql_shell.proofs.Unwinding.{kept_inside, stands_kept}
+use Rattle.ql_shell.proofs.Unwinding.{kept_inside}
 
 -- a level is open where one is asked for
 some_open : (n : ℕ) → (n == 0) ≡ false → 0 < n

@@ -1,5 +1,5 @@
 -- A session whose levels are closed after a refusal.
-use Rattle.std.proofs.Common.{◌≡◌, ℕ, List, [], Option, Some, Result, Err, refl, sym, subst, ◌∙◌}
+use Rattle.std.proofs.Common.{◌≡◌, ℕ, List, [], Option, Some, Err, refl, sym, subst, ◌∙◌}
 use Rattle.ql_edge.specs.Told.{Told, ShowsFront}
 use Rattle.ql_syntax.specs.Answers.{Answer}
 use Rattle.ql_rel.specs.declared.db.Db.{Db}

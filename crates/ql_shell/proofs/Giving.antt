@@ -1,5 +1,5 @@
 -- What a run gives, by its status.
-use Rattle.std.proofs.Common.{◌≡◌, ℕ, ◌+◌, List, [], ◌++◌, length, take, Option, Some, None, ◌⊎◌, inl, inr, option_map, refl, sym, ap, ◌∙◌, arith}
+use Rattle.std.proofs.Common.{◌≡◌, ℕ, List, [], ◌++◌, length, take, Some, None, ◌⊎◌, inl, inr, option_map, refl, sym, ap, ◌∙◌, arith}
 use Rattle.std.proofs.lemmas.List.{take_all}
 use Rattle.ql_edge.specs.Told.{Told, with_shown, shown_of, warned_of, ShowsFront}
 use Rattle.lldb_base.specs.declared.trouble.Trouble.{Trouble}

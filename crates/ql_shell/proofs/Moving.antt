@@ -1,5 +1,5 @@
 -- What a session counts stays where a statement on tables is carried out.
-use Rattle.std.proofs.Common.{◌≡◌, ℕ, Bool, true, false, ◌&&◌, ◌==◌, cond, List, [], length, Option, Result, Ok, Err, refl, sym, ap, subst, ◌∙◌}
+use Rattle.std.proofs.Common.{◌≡◌, ℕ, Bool, true, false, ◌&&◌, ◌==◌, cond, List, length, Option, Result, Ok, Err, refl, sym, ap, subst, ◌∙◌}
 use Rattle.ql_edge.specs.Told.{Told}
 use Rattle.ql_syntax.specs.Answers.{Answer, then_with, refused}
 use Rattle.ql_syntax.specs.declared.statement.Statement.{Statement}
@@ -7,7 +7,7 @@ use Rattle.ql_syntax.specs.declared.statement.Statement.TheVariants as s
 use Rattle.ql_rel.specs.declared.db.Db.{Db}
 use Rattle.ql_rel.specs.Events.{Event}
 use Rattle.ql_rel.specs.StatementEffects.{statement_effect}
-use Rattle.ql_shell.specs.Goings.{Goes, Moves, Went}
+use Rattle.ql_shell.specs.Goings.{Goes, Moves}
 use Rattle.ql_rel.specs.Sessions.{State, carries, needs_level, no_transaction, shown, stepped}
 use Rattle.ql_shell.specs.declared.fault.StepFault.{StepFault}
 use Rattle.ql_shell.specs.declared.fault.StepFault.TheVariants as step

@@ -1,5 +1,5 @@
 -- Tables in memory have no device: what they answer leaves the faults of the machine beside them.
-use Rattle.std.proofs.Common.{◌≡◌, ℕ, ◌+◌, ◌-◌, ◌≤◌, ◌^◌, min, Option, None, Some, Result, Ok, Err, refl, arith}
+use Rattle.std.proofs.Common.{ℕ, Option, Result, Ok, Err, refl, arith}
 use Rattle.ql_edge.specs.Cause.{Rose}
 use Rattle.lldb_base.specs.declared.trouble.Trouble.{Trouble}
 use Rattle.lldb_base.specs.declared.trouble.Trouble.TheVariants as trouble

@@ -1,11 +1,9 @@
 -- Levels that open and close, and where a session stands then.
-use Rattle.std.proofs.Common.{◌≡◌, ℕ, zero, suc, ◌+◌, ◌<◌, ◌≤◌, Bool, true, false, ◌==◌, nat_lt, cond, List, [], ◌∷◌, ◌++◌, append-nil, map, drop, take, length, Option, Some, None, Result, Ok, Err, refl, sym, ap, subst, ◌∙◌, arith}
+use Rattle.std.proofs.Common.{◌≡◌, ℕ, suc, ◌<◌, ◌≤◌, true, false, List, [], ◌∷◌, append-nil, map, drop, length, Option, Some, None, Err, refl, sym, ap, ◌∙◌, arith}
 use Rattle.std.proofs.lemmas.Bool.Decides.{nat_tests}
-use Rattle.ql_edge.specs.Told.{Told, with_shown, ShowsFront}
+use Rattle.ql_edge.specs.Told.{Told, with_shown}
 use Rattle.ql_value.specs.declared.refusal.Refusal.{Refusal}
-use Rattle.ql_syntax.specs.Answers.{Answer}
 use Rattle.ql_rel.specs.declared.db.Db.{Db}
-use Rattle.ql_rel.specs.Events.{Event, shown_text}
 use Rattle.ql_rel.specs.Rels.{saved_last}
 use Rattle.ql_shell.specs.Goings.{Stands, Went, outermost}
 use Rattle.ql_rel.specs.Sessions.{State, is_closed, no_transaction, rolled_back, rolls_back}

@@ -1,7 +1,6 @@
 -- The status of a run that a statement stops.
-use Rattle.std.proofs.Common.{◌≡◌, ℕ, Option, Some, None, Result, Err, subst, sym, ap, ◌∙◌}
+use Rattle.std.proofs.Common.{◌≡◌, ℕ, Option, Some, None, Err, subst, sym, ◌∙◌}
 use Rattle.ql_edge.specs.Cause.{Rose}
-use Rattle.lldb_base.specs.declared.trouble.Trouble.{Trouble}
 use Rattle.lldb_base.specs.declared.trouble.Trouble.TheVariants as trouble
 use Rattle.ql_rel.specs.declared.db.Db.{Db}
 use Rattle.ql_shell.specs.Cause.{IsCausedStatus}

@@ -1,5 +1,5 @@
 -- Statements in turn, each of which goes on where the one before it ended.
-use Rattle.std.proofs.Common.{◌≡◌, ℕ, suc, ◌+◌, ◌≤◌, Bool, List, [], ◌∷◌, ◌++◌, length, take, map, Option, Some, Result, Ok, Err, refl, sym, ap, subst, ◌∙◌, append_assoc, append-nil, length-append, arith}
+use Rattle.std.proofs.Common.{◌≡◌, ℕ, suc, ◌+◌, Bool, List, [], ◌∷◌, ◌++◌, length, take, map, Option, Some, Ok, Err, refl, sym, ap, subst, ◌∙◌, append_assoc, append-nil, length-append, arith}
 use Rattle.std.proofs.Math.Seq.{take-append-add}
 use Rattle.ql_edge.specs.Told.{Told, with_shown, ShowsFront}
 use Rattle.lldb_base.specs.declared.trouble.Trouble.{Trouble}
@@ -11,7 +11,7 @@ use Rattle.ql_rel.specs.declared.db.Db.{Db}
 use Rattle.ql_rel.specs.EventLaws.{EventLaws}
 use Rattle.ql_rel.specs.Events.{Event, completed, refused_in, Course, preceded_by, shown_text, kept_after}
 use Rattle.ql_rel.specs.SessionLaws.{SessionLaws, IsTold}
-use Rattle.ql_rel.specs.Sessions.{State, finished, given_up, goes_on, session, stepped}
+use Rattle.ql_rel.specs.Sessions.{State, finished, goes_on, session, stepped}
 use Rattle.ql_shell.specs.Goings.{Ends, IsAt, Moved, outermost, text_of}
 use Rattle.ql_shell.specs.Meaning.{answered, status_after}
 use Rattle.ql_shell.specs.Pieces.{RunsFrom, RunsOn}
@@ -20,7 +20,7 @@ use Rattle.ql_shell.specs.Stops.{EndsBy, StopsBy}
 use Rattle.ql_shell.specs.declared.fault.StepFault.{StepFault}
 use Rattle.ql_shell.specs.declared.fault.StepFault.TheVariants as step
 use Rattle.ql_shell.specs.declared.status.Status.{Status}
-use Rattle.ql_shell.specs.declared.status.Status.TheVariants.{Done, Refused, Fault, NoMemory}
+use Rattle.ql_shell.specs.declared.status.Status.TheVariants.{Done, Fault, NoMemory}
 use Rattle.ql_shell.proofs.Giving.{trouble_gives}
 use Rattle.ql_shell.proofs.Pieces.{shown_none, shown_twice, front_longer}
 
@@ -113,8 +113,10 @@ kept_at laws all first before now now' number answer more st (step.Trouble t) he
   where
     no_fault : status ≡ Fault → ⊥
     no_fault e = subst IsFinal e final
+
     no_memory : status ≡ NoMemory → ⊥
     no_memory e = subst IsFinal e final
+
     not_final : (t : Trouble) → EndsBy t status → ⊥
     not_final trouble.Failed e = no_fault e
     not_final trouble.NoMemory e = no_memory e
@@ -127,9 +129,10 @@ pub from_stopped : (names ack : Bool) → EventLaws → (all : Course) (first : 
     → Gives (answered all) status before now' × (IsFinal status → held' ≡ Some (kept_after first all.events))
 from_stopped names ack laws all first before now now' number items s ss f held held' levels levels' counted counted' own own' status e from steps is =
     let h = items_are names ack all first before now number items (s ∷ ss) held levels counted own e from in
-    let more : State → Course = λ (z : State). session names ack (suc number) ss z in
-    (stopped_at laws all first before now now' number (stepped names ack s from.st) more from.st f held' levels' counted' own' status h (steps from.st from.at) is,
-    kept_at laws all first before now now' number (stepped names ack s from.st) more from.st f held' levels' counted' own' status h (steps from.st from.at) is)
+    let more : State → Course = λ (z : State). session names ack (suc number) ss z in (
+      stopped_at laws all first before now now' number (stepped names ack s from.st) more from.st f held' levels' counted' own' status h (steps from.st from.at) is,
+      kept_at laws all first before now now' number (stepped names ack s from.st) more from.st f held' levels' counted' own' status h (steps from.st from.at) is,
+    )
 
 -- nothing follows the end
 abbrev nothing : State → Course
@@ -140,9 +143,10 @@ pub from_unfinished : (names ack : Bool) → EventLaws → (all : Course) (first
     → ((st : State) → IsAt held levels counted own st → Ends {T = Unit {0}} (finished ack st) st (Err f) now now' held' levels' counted' own') → StopsBy number f status
     → Gives (answered all) status before now' × (IsFinal status → held' ≡ Some (kept_after first all.events))
 from_unfinished names ack laws all first before now now' number items f held held' levels levels' counted counted' own own' status e from steps is =
-    let h = items_are names ack all first before now number items [] held levels counted own e from in
-    (stopped_at laws all first before now now' number (finished ack from.st) nothing from.st f held' levels' counted' own' status h (steps from.st from.at) is,
-    kept_at laws all first before now now' number (finished ack from.st) nothing from.st f held' levels' counted' own' status h (steps from.st from.at) is)
+    let h = items_are names ack all first before now number items [] held levels counted own e from in (
+      stopped_at laws all first before now now' number (finished ack from.st) nothing from.st f held' levels' counted' own' status h (steps from.st from.at) is,
+      kept_at laws all first before now now' number (finished ack from.st) nothing from.st f held' levels' counted' own' status h (steps from.st from.at) is,
+    )
 
 -- where no level is open the database is the kept one
 kept_below : (st : State) (saved : List Db) → saved ≡ st.saved → st.kept ≡ outermost st.db saved → map (λ (d : Db). Some d) saved ≡ [] → st.db ≡ st.kept
@@ -161,9 +165,10 @@ from_finished names ack laws levelled all first before now now' number items hel
     let m = steps from.st from.at in
     let told : IsTold m.done from.st = levelled.end_told ack from.st m.done m.is in
     let r = runs_on laws all first before now now' number (finished ack from.st) nothing m.done from.st.kept h m.is m.shown told.kept in
-    let whole : all.events ≡ r.done = ap (λ (c : Course). c.events) r.whole ∙ append-nil r.done in
-    ((ap (λ (c : Course). status_after c.closing) (sym r.whole), r.told ∙ ap (λ t. with_shown t before) (ap shown_text (sym whole))),
-    db_kept held' levels' counted' own' m.done.1 m.at none ∙ ap Some (r.kept ∙ ap (kept_after first) (sym whole)))
+    let whole : all.events ≡ r.done = ap (λ (c : Course). c.events) r.whole ∙ append-nil r.done in (
+      (ap (λ (c : Course). status_after c.closing) (sym r.whole), r.told ∙ ap (λ t. with_shown t before) (ap shown_text (sym whole))),
+      db_kept held' levels' counted' own' m.done.1 m.at none ∙ ap Some (r.kept ∙ ap (kept_after first) (sym whole)),
+    )
 
 -- settings that stay are those of the first statement
 pub stops_with : (names names' ack ack' : Bool) (s : Statement) (st : State) (f : StepFault) (before now : Told) (held : Option Db) (levels : List (Option Db)) (counted own : ℕ) → names' ≡ names → ack' ≡ ack

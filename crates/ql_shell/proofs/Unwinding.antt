@@ -1,5 +1,5 @@
 -- Levels that are closed one after another.
-use Rattle.std.proofs.Common.{◌≡◌, ℕ, suc, ◌<◌, ◌≤◌, List, [], ◌∷◌, drop, map, length, Option, Some, None, refl, sym, ap, ◌∙◌, arith}
+use Rattle.std.proofs.Common.{◌≡◌, ◌<◌, ◌≤◌, List, [], ◌∷◌, drop, map, length, Option, Some, refl, sym, ap, ◌∙◌, arith}
 use Rattle.ql_rel.specs.declared.db.Db.{Db}
 use Rattle.ql_rel.specs.Rels.{saved_last}
 use Rattle.ql_shell.specs.Goings.{IsKeptBy, KeepsBelow, Stands, outermost}

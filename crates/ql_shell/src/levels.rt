@@ -118,12 +118,7 @@ fn show_commit<R: Rel>(alloc: Global, rel: &mut R, number: u64) -> Result<(), St
 
 /// Closes a level, and answers how many outermost commits there were. The end of the outermost level is a commit, whose line
 /// is shown where that is asked for.
-pub fn close<R: Rel>(
-    alloc: Global,
-    rel: &mut R,
-    commits: u64,
-    ack: bool,
-) -> Result<u64, StepFault>
+pub fn close<R: Rel>(alloc: Global, rel: &mut R, commits: u64, ack: bool) -> Result<u64, StepFault>
     requires ready { IsTrue (R.is_ready rel.old) }
     requires level { 0 < length (R.saved rel.old) }
     requires counted { commits + 1 < 2 ^ 64 }

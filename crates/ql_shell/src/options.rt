@@ -25,7 +25,10 @@ impl Options {
     pub fn none() -> Options
         ensures { result ≡ spec.no_options }
     {
-        Options { bare: false, with_names: false }
+        Options {
+            bare: false,
+            with_names: false,
+        }
     }
 
     /// These options with one of them set or unset.

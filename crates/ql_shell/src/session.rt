@@ -8,7 +8,9 @@ ghost use Rattle.ql_shell.specs.Goings.{IsAt, IsCausedStep, Ends, LeavesRest, Ma
 ghost use Rattle.ql_shell.specs.declared.fault.StepFault.TheVariants as step;
 
 use crate::fault::StepFault;
-use crate::levels::{NO_TRANSACTION, UNBALANCED, begin, carry_out, close, roll_back, roll_back_all};
+use crate::levels::{
+    NO_TRANSACTION, UNBALANCED, begin, carry_out, close, roll_back, roll_back_all,
+};
 use ql_rel::Rel;
 use ql_syntax::Statement;
 use ql_value::Refusal;

@@ -1,4 +1,4 @@
-use Rattle.std.proofs.Common.{refl, sym, ◌∙◌}
+use Rattle.std.proofs.Common.{refl}
 use Rattle.ql_shell.proofs.Carrying.{deep_enough, lacks, carried, stopped, half_shown}
 use Rattle.ql_shell.proofs.Unwinding.{stands_kept}
 use Rattle.ql_shell.proofs.levels.carry_out.Goals as goal

@@ -1,4 +1,3 @@
-use Rattle.std.proofs.Common.{◌∙◌}
 use Rattle.ql_rel.specs.Databases.{empty_db}
 use Rattle.ql_rel.specs.Sessions.{opened}
 use Rattle.ql_shell.proofs.script_run.carry_out.Goals as goal
