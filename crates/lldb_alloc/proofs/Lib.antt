@@ -13,3 +13,5 @@ pub mod Spelled
 pub mod Created
 pub mod Fulls
 pub mod Gaps
+pub mod Sites
+pub mod Removed
