@@ -15,3 +15,5 @@ pub mod Fulls
 pub mod Gaps
 pub mod Sites
 pub mod Removed
+pub mod Placed
+pub mod Replaced

@@ -35,7 +35,7 @@ gap_past (Some c) at atoms bytes long past = λ x y place spread_x spread_y l.
     omega (arith, all, parts, place, long, past)
 
 -- a row with a block of it in the middle
-record Split (c : List ℕ) (row : List Extent) (q : ℕ) (e : Extent) : Type 0 where
+pub record Split (c : List ℕ) (row : List Extent) (q : ℕ) (e : Extent) : Type 0 where
   pub x : List Extent
   pub y : List Extent
   pub is : row ≡ x ++ e ∷ y
@@ -43,7 +43,7 @@ record Split (c : List ℕ) (row : List Extent) (q : ℕ) (e : Extent) : Type 0 
   pub lays : Lays c (x ++ e ∷ y)
   pub rest : AtRest (x ++ e ∷ y)
 
-split : (c : List ℕ) (row : List Extent) (q : ℕ) (e : Extent) → Lays c row → AtRest row → extent_at 8 row q ≡ Some e → Split c row q e
+pub split : (c : List ℕ) (row : List Extent) (q : ℕ) (e : Extent) → Lays c row → AtRest row → extent_at 8 row q ≡ Some e → Split c row q e
 split c row q e l rest here =
     let f = found 8 row q e here in
     record {
@@ -160,7 +160,7 @@ away_unlive_behind (Some c) (Some d) handle at atoms site first lacks = λ row u
     gap_stands d k.now at (Used u) refl k.lays k.rest k.there (subst (λ (n : ℕ). LacksGap at n d) is.2 lacks)
 
 -- the heap that is told
-by_live : (P : List ℕ → Type 0) (o : Option (List ℕ)) → ((u : List ℕ) → o ≡ Some u → P u) → IfSome o P
+pub by_live : (P : List ℕ → Type 0) (o : Option (List ℕ)) → ((u : List ℕ) → o ≡ Some u → P u) → IfSome o P
 by_live P None goes = tt
 by_live P (Some u) goes = goes u refl
 
