@@ -69,12 +69,7 @@ fn trim<F: Filer>(filer: &mut F, at: u64, atoms: u64) -> Result<(), Trouble>
 
 /// Writes a content over the used block of so many atoms at an atom, and gives up those that are left over.
 #[tactic(auto, using(crate::proofs::Stays::stops_none, crate::proofs::Stays::stops_then, crate::proofs::Replaced::rewritten_told))]
-fn rewrite<F: Filer>(
-    filer: &mut F,
-    at: u64,
-    atoms: u64,
-    content: &[u8],
-) -> Result<(), Trouble>
+fn rewrite<F: Filer>(filer: &mut F, at: u64, atoms: u64, content: &[u8]) -> Result<(), Trouble>
     requires sound { IsTrue (F.is_sound filer.old) }
     requires depth { 1 ≤ length (F.saved filer.old) }
     requires limits { F.size_of filer.old ≤ 2 ^ 60 }
@@ -289,11 +284,7 @@ fn replace_at<F: Filer>(
 
 /// Gives a handle of the heap that a filer's content holds another content.
 #[tactic(auto, using(crate::proofs::Stays::stops_none, crate::proofs::Stays::stops_then, crate::proofs::Replaced::replaced_told))]
-pub fn replace_content<F: Filer>(
-    filer: &mut F,
-    handle: u64,
-    content: &[u8],
-) -> Result<(), Trouble>
+pub fn replace_content<F: Filer>(filer: &mut F, handle: u64, content: &[u8]) -> Result<(), Trouble>
     requires sound { IsTrue (F.is_sound filer.old) }
     requires depth { 1 ≤ length (F.saved filer.old) }
     requires limits { F.size_of filer.old ≤ 2 ^ 60 }
