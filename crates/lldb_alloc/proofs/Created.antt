@@ -1,30 +1,26 @@
 -- A content is added to a heap that is told.
-use Rattle.std.proofs.Common.{◌≡◌, ℕ, ◌+◌, ◌-◌, ◌*◌, ◌/◌, ◌<◌, ◌≤◌, List, [], ◌∷◌, ◌++◌, length, Option, Some, None, IfSome, Result, Ok, Err, IfOk, refl, sym, ◌∙◌, ap, subst, inl, inr, arith, get_or, option_map}
-use Rattle.std.proofs.lemmas.Bool.{cases_eq, cases_lt}
+use Rattle.std.proofs.Common.{◌≡◌, ℕ, ◌*◌, ◌/◌, ◌<◌, ◌≤◌, List, [], ◌∷◌, length, Option, Some, None, IfSome, Result, Ok, Err, IfOk, refl, sym, ◌∙◌, ap, subst, inl, inr, arith, get_or, option_map}
+use Rattle.std.proofs.lemmas.Bool.{cases_lt}
 use Rattle.std.proofs.lemmas.List.{get_or-replicate, get_or_past, length-replicate}
 use Rattle.std.specs.Prelude.{replicate}
 use Rattle.std.specs.Option.{IsSomeAnd}
 use Rattle.lldb_base.specs.declared.trouble.Trouble.{Trouble}
 use Rattle.lldb_base.specs.Batch.{put}
-use Rattle.lldb_base.specs.Contents.{Contents, content_of, with_content, atoms_for}
-use Rattle.lldb_atoms.specs.Blocks.{Extent, Used, Free, Hole, Tile}
-use Rattle.lldb_atoms.specs.Rows.{atoms_in, extent_at, contains, targets, heap}
+use Rattle.lldb_base.specs.Contents.{Contents}
+use Rattle.lldb_atoms.specs.Blocks.{Extent, Free, Tile}
+use Rattle.lldb_atoms.specs.Rows.{heap}
 use Rattle.lldb_atoms.specs.Lists.{row_of}
 use Rattle.lldb_atoms.specs.Sound.{sound_tiling, heap_in, tiling}
-use Rattle.lldb_atoms.proofs.Says.{atoms_some}
-use Rattle.lldb_blocks.specs.Laid.{Solid, Lays, AtRest}
-use Rattle.lldb_blocks.proofs.Looks.{found, look_past}
-use Rattle.lldb_blocks.proofs.Heaps.{heap_at, meant}
-use Rattle.lldb_blocks.proofs.Lays.{lays_filled, lays_grown, lays_length}
+use Rattle.lldb_blocks.specs.Laid.{Lays, AtRest}
+use Rattle.lldb_blocks.proofs.Looks.{found}
+use Rattle.lldb_blocks.proofs.Lays.{lays_length}
 use Rattle.lldb_blocks.proofs.Bridges.{lays_heap, sound_lays}
 use Rattle.lldb_blocks.proofs.Places.{put_end}
 use Rattle.lldb_blocks.proofs.Readings.{lays_new, rest_new}
-use Rattle.lldb_blocks.proofs.Calls.{made_whole, made_part, made_last, empty_row}
-use Rattle.lldb_alloc.specs.Changes.{Turns, LacksRow, LacksPart, TakesPart, WritesUsed, NewTable, left_over}
+use Rattle.lldb_alloc.specs.Changes.{Turns, LacksRow, LacksPart, WritesUsed, NewTable}
 use Rattle.lldb_alloc.specs.Room.{FindsRoom, most_in, most_free_told}
 use Rattle.lldb_alloc.specs.Told.{heap_told, Creates}
 use Rattle.lldb_alloc.specs.Places.{Placed, Places}
-use Rattle.lldb_alloc.proofs.Parts.{left_none, left_some}
 use Rattle.lldb_alloc.proofs.ToldHeaps.{rested, no_contents}
 use Rattle.lldb_alloc.proofs.Placed.{grown}
 

@@ -1,8 +1,8 @@
 -- A content is put where none stood: behind the last block, or in a free block, of which the rest stays free.
-use Rattle.std.proofs.Common.{◌≡◌, ℕ, ◌+◌, ◌-◌, ◌*◌, ◌<◌, ◌≤◌, List, [], ◌∷◌, ◌++◌, length, Option, Some, None, IfSome, refl, sym, ◌∙◌, ap, subst, inl, inr, arith}
+use Rattle.std.proofs.Common.{◌≡◌, ℕ, ◌+◌, ◌-◌, ◌*◌, ◌≤◌, List, [], ◌∷◌, ◌++◌, length, Option, Some, None, IfSome, refl, sym, ◌∙◌, ap, subst, inl, inr, arith}
 use Rattle.std.proofs.lemmas.Bool.{cases_eq, cases_lt}
 use Rattle.lldb_base.specs.Batch.{put}
-use Rattle.lldb_base.specs.Contents.{Contents, content_of, with_content, atoms_for}
+use Rattle.lldb_base.specs.Contents.{content_of, with_content, atoms_for}
 use Rattle.lldb_atoms.specs.Blocks.{Extent, Used, Compressed, Moved, Free, Hole}
 use Rattle.lldb_atoms.specs.Rows.{atoms_in, extent_at, contains, targets, heap}
 use Rattle.lldb_atoms.proofs.Says.{atoms_some}

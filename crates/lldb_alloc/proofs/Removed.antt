@@ -5,8 +5,8 @@ use Rattle.lldb_base.specs.Heaps.{MayBeDead}
 use Rattle.lldb_atoms.specs.Blocks.{Extent, Used, Moved, Hole, size, is_free}
 use Rattle.lldb_atoms.specs.Rows.{atoms_in, extent_at, contains, targets, used_content, heap}
 use Rattle.lldb_atoms.specs.Sound.{heap_in}
-use Rattle.lldb_blocks.specs.Laid.{Solid, Lays, AtRest}
-use Rattle.lldb_blocks.proofs.Looks.{atoms_append, found, look_here, look_there, Solid_left}
+use Rattle.lldb_blocks.specs.Laid.{Lays, AtRest}
+use Rattle.lldb_blocks.proofs.Looks.{atoms_append, found, look_there, Solid_left}
 use Rattle.lldb_blocks.proofs.Lays.{lays_emptied, lays_length}
 use Rattle.lldb_blocks.proofs.Heaps.{heap_at, meant, Rising_heap, target_named}
 use Rattle.lldb_blocks.proofs.Contents.{heap_emptied, heap_unpointed}

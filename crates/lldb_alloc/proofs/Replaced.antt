@@ -9,12 +9,12 @@ use Rattle.lldb_base.specs.Heaps.{IsGrown, IsFull}
 use Rattle.lldb_atoms.specs.declared.block.Block.TheVariants as block
 use Rattle.lldb_atoms.specs.Heads.{head_of}
 use Rattle.lldb_atoms.specs.Blocks.{Extent, Used, Moved, Hole, is_free}
-use Rattle.lldb_atoms.specs.Rows.{atoms_in, extent_at, contains, targets, are_spaced, ends_free, used_content, heap}
+use Rattle.lldb_atoms.specs.Rows.{atoms_in, extent_at, contains, targets, are_spaced, ends_free, heap}
 use Rattle.lldb_atoms.specs.Sound.{heap_in}
 use Rattle.lldb_atoms.proofs.Says.{atoms_some}
 use Rattle.lldb_blocks.specs.Laid.{Solid, Lays, AtRest, Named}
 use Rattle.lldb_blocks.specs.Steps.{Settled}
-use Rattle.lldb_blocks.proofs.Looks.{Quiet, atoms_append, found, look_here, look_there, look_exchanged, Solid_append, Solid_left, Solid_right}
+use Rattle.lldb_blocks.proofs.Looks.{Quiet, atoms_append, found, look_there, look_exchanged, Solid_left, Solid_right}
 use Rattle.lldb_blocks.proofs.Lays.{lays_emptied, lays_parted, lays_filled}
 use Rattle.lldb_blocks.proofs.Heaps.{heap_at, meant, Rising_heap, targets_append, target_named}
 use Rattle.lldb_blocks.proofs.Maps.{with_there, with_here}

@@ -1,5 +1,5 @@
 -- Where the content of a handle stands, as it is read.
-use Rattle.std.proofs.Common.{◌≡◌, ℕ, ◌+◌, ◌≤◌, Bool, true, false, cond, leb, List, ◌∷◌, ◌++◌, length, Option, Some, None, IfSome, Result, Ok, Err, refl, sym, ◌∙◌, ap, subst, inl, inr, le-leb}
+use Rattle.std.proofs.Common.{◌≡◌, ℕ, ◌≤◌, Bool, true, false, cond, leb, List, length, Option, Some, None, IfSome, Ok, Err, refl, sym, ◌∙◌, ap, subst, inl, inr, le-leb}
 use Rattle.std.specs.Prelude.{⊤}
 use Rattle.std.proofs.lemmas.Bool.{cases_lt, cond-true, cond-false, lt-leb}
 use Rattle.lldb_base.specs.declared.trouble.Trouble.{Trouble}
@@ -9,12 +9,12 @@ use Rattle.lldb_base.specs.Contents.{content_of, atoms_for}
 use Rattle.lldb_atoms.specs.declared.block.Block.{Block}
 use Rattle.lldb_atoms.specs.declared.block.Block.TheVariants as block
 use Rattle.lldb_atoms.specs.Heads.{atoms_of}
-use Rattle.lldb_atoms.specs.Blocks.{Extent, Used, Moved, used_head, head_for}
-use Rattle.lldb_atoms.specs.Rows.{atoms_in, extent_at, contains, targets, heap}
+use Rattle.lldb_atoms.specs.Blocks.{Extent, Used, Moved, used_head}
+use Rattle.lldb_atoms.specs.Rows.{extent_at, contains, targets, heap}
 use Rattle.lldb_atoms.proofs.Says.{atoms_some}
-use Rattle.lldb_blocks.specs.Laid.{Lays, AtRest}
+use Rattle.lldb_blocks.specs.Laid.{Lays}
 use Rattle.lldb_blocks.proofs.Heaps.{heap_at, meant}
-use Rattle.lldb_alloc.specs.Reads.{Gives, HasBlock}
+use Rattle.lldb_alloc.specs.Reads.{HasBlock}
 use Rattle.lldb_alloc.specs.Handles.{HasUsedAtoms, LacksUsed, HasSite, LacksHandle}
 use Rattle.lldb_alloc.specs.declared.site.Site.TheVariants as site
 use Rattle.lldb_alloc.proofs.Uses.{not_used, handle_says, spells_at}

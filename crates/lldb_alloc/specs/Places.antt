@@ -1,7 +1,7 @@
 -- A content goes to another place, or stays in its own.
-use Rattle.std.specs.Prelude.{◌≡◌, ℕ, ◌+◌, ◌<◌, Bool, false, nat_eq, if◌then◌else◌, List, [], ◌∷◌, ◌++◌, length, Option, Some, None, IfSome, MatchBool}
+use Rattle.std.specs.Prelude.{◌≡◌, ℕ, ◌+◌, ◌<◌, false, nat_eq, if◌then◌else◌, List, [], ◌∷◌, ◌++◌, length, Option, Some, None, IfSome, MatchBool}
 use Rattle.lldb_base.specs.Contents.{Contents, content_of, with_content, atoms_for}
-use Rattle.lldb_atoms.specs.Blocks.{Extent, Used, Moved, Hole, is_free}
+use Rattle.lldb_atoms.specs.Blocks.{Extent, Used, Moved, Hole}
 use Rattle.lldb_atoms.specs.Rows.{atoms_in, extent_at, contains, targets, heap}
 use Rattle.lldb_atoms.specs.Sound.{heap_in}
 use Rattle.lldb_blocks.specs.Laid.{Lays, AtRest}

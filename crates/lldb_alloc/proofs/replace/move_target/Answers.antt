@@ -1,4 +1,4 @@
-use Rattle.std.proofs.Common.{◌≡◌, ℕ, ◌+◌, ◌-◌, ◌*◌, ◌<◌, ◌≤◌, max, List, length, Option, Some, None, Result, IfSome, refl, subst, arith}
+use Rattle.std.proofs.Common.{◌≡◌, ℕ, List, length, Option, Some, None, Result, IfSome}
 use Rattle.lldb_base.specs.declared.trouble.Trouble.{Trouble}
 use Rattle.lldb_base.specs.Trouble.{Refuses}
 use Rattle.lldb_base.specs.Contents.{atoms_for}
@@ -8,8 +8,7 @@ use Rattle.lldb_alloc.specs.Room.{most_free_told}
 use Rattle.lldb_alloc.specs.Told.{heap_told}
 use Rattle.lldb_alloc.specs.Handles.{LacksHandle}
 use Rattle.lldb_alloc.proofs.Uses.{by_error}
-use Rattle.lldb_alloc.proofs.Lists.{refuses_more}
-use Rattle.lldb_alloc.proofs.Fulls.{never_full, full_more}
+use Rattle.lldb_alloc.proofs.Fulls.{full_more}
 use Rattle.lldb_alloc.proofs.Replaced.{none_live, again_sane}
 use Rattle.lldb_alloc.proofs.replace.move_target.Goals as goal
 

@@ -1,4 +1,4 @@
-use Rattle.std.proofs.Common.{◌≡◌, ℕ, ◌+◌, ◌-◌, ◌*◌, ◌<◌, ◌≤◌, List, length, Option, Some, Result, IfSome, subst, arith}
+use Rattle.std.proofs.Common.{ℕ, List, length, Option, Some, Result, IfSome, subst}
 use Rattle.lldb_base.specs.declared.trouble.Trouble.{Trouble}
 use Rattle.lldb_base.specs.Trouble.{Refuses}
 use Rattle.lldb_base.specs.Contents.{atoms_for}
@@ -6,7 +6,7 @@ use Rattle.lldb_base.specs.Heaps.{MayBeDead, IsGrown, IsFull}
 use Rattle.lldb_alloc.specs.Room.{most_free_told}
 use Rattle.lldb_alloc.specs.Told.{heap_told}
 use Rattle.lldb_alloc.specs.Handles.{LacksHandle}
-use Rattle.lldb_alloc.specs.Places.{LacksUsedAtoms, HasFewer}
+use Rattle.lldb_alloc.specs.Places.{HasFewer}
 use Rattle.lldb_alloc.specs.declared.site.Site.{Site}
 use Rattle.lldb_alloc.proofs.Uses.{by_error}
 use Rattle.lldb_alloc.proofs.Fulls.{full_more}
