@@ -13,3 +13,7 @@ pub mod Spelled
 pub mod Created
 pub mod Fulls
 pub mod Gaps
+pub mod Sites
+pub mod Removed
+pub mod Placed
+pub mod Replaced

@@ -4,3 +4,5 @@ pub mod Told
 pub mod Changes
 pub mod Room
 pub mod Releases
+pub mod Handles
+pub mod Places

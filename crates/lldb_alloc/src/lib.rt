@@ -8,8 +8,13 @@ mod create;
 mod front;
 mod links;
 mod release;
+mod remove;
+mod replace;
 mod room;
+mod site;
 mod write;
 
 pub use content::read_content;
 pub use create::create_content;
+pub use remove::remove_content;
+pub use replace::replace_content;

@@ -203,3 +203,30 @@ pub(crate) fn release<F: Filer>(filer: &mut F, at: u64, atoms: u64) -> Result<()
     give_up(filer, gap.from, gap.atoms)?;
     Ok(())
 }
+
+/// Gives up a block of so many atoms, which is not free. It is `Damaged` where the block is not within the content.
+#[tactic(auto, using(crate::proofs::Stays::stops_none, crate::proofs::Stays::stops_then, crate::proofs::Removed::gap_low, crate::proofs::Removed::gap_past))]
+pub(crate) fn discard<F: Filer>(filer: &mut F, at: u64, atoms: u64) -> Result<(), Trouble>
+    requires sound { IsTrue (F.is_sound filer.old) }
+    requires depth { 1 ≤ length (F.saved filer.old) }
+    requires most { F.size_of filer.old ≤ 2 ^ 60 }
+    requires some { 1 ≤ atoms }
+    requires end { 16 * (at + atoms) ≤ 2 ^ 60 }
+    ensures released { OnOk result (Turns (F.content filer.old) (F.content filer.new) (Releases at
+        atoms)) }
+    ensures size { F.size_of filer.new ≤ F.size_of filer.old }
+    ensures refuses { Refuses (λ _ _. ⊥) (IfSome (F.content filer.old) (LacksGap at atoms)) result }
+    ensures frame { KeepsLevels F.saved F.saved_sizes F.limit_of F.is_sound F.told F.left F.fixed
+        filer.old filer.new }
+    ensures stops { KeepsStops F.content F.saved F.may_leave F.moment F.left_since F.told filer.old
+        filer.new }
+    ensures cause { IsCausedTrouble result (F.faults filer.old) (F.faults filer.new) }
+{
+    if at < 8 {
+        return Err(Trouble::Damaged);
+    }
+    if filer.size() < 16 * (at + atoms) {
+        return Err(Trouble::Damaged);
+    }
+    release(filer, at, atoms)
+}

@@ -10,7 +10,7 @@ use Rattle.lldb_alloc.proofs.Uses.{by_error}
 use Rattle.lldb_alloc.proofs.Lists.{refuses_more}
 use Rattle.lldb_alloc.proofs.Fulls.{never_full}
 use Rattle.lldb_alloc.proofs.Created.{rowless_unsound, uneven_unsound}
-use Rattle.lldb_alloc.proofs.create.create_more.Goals as goal
+use Rattle.lldb_alloc.proofs.create.place_content.Goals as goal
 
 pub returns-then-size-lt128-clause-refuses : goal.returns-then-size-lt128-clause-refuses
 returns-then-size-lt128-clause-refuses g c =
