@@ -18,6 +18,7 @@ pub mod Shown
 pub mod Few
 pub mod Rounds
 pub mod Assigned
+pub mod Placed
 pub mod NewRows
 pub mod Rowed
 pub mod Dropped
