@@ -84,7 +84,7 @@ both_turned : row_from (1 ∷ 0 ∷ []) (v.Text (codes "x") ∷ v.Int k.Int8 (po
 both_turned = refl
 
 -- rows of a SELECT are put together like others, and go in behind the rows that it was made of
-shown_placed : rows_from (1 ∷ []) ((v.Text (codes "x") ∷ []) ∷ (v.Null ∷ []) ∷ []) t_columns ≡ (v.Null ∷ v.Text (codes "x") ∷ []) ∷ two ∷ []
+shown_placed : rows_from (1 ∷ []) t_columns ((v.Text (codes "x") ∷ []) ∷ (v.Null ∷ []) ∷ []) ≡ (v.Null ∷ v.Text (codes "x") ∷ []) ∷ two ∷ []
 shown_placed = refl
 
 shown_twice : (select : Select) (p : Plan) → shown_rows (with_rows_of 4 (row_of 3 one ∷ [])) select p ≡ Ok (one ∷ one ∷ []) → p.targets ≡ 0 ∷ 1 ∷ []
