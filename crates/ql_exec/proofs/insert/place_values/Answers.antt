@@ -4,7 +4,7 @@ use Rattle.ql_exec.proofs.Placed.{for_each, places_below, all_placed}
 use Rattle.ql_exec.proofs.insert.place_values.Goals as goal
 
 pub returns-then-are_all : goal.returns-then-are_all
-returns-then-are_all c = ?
+returns-then-are_all c = all_placed c.args.columns.now c.args.targets.now c.args.new (sym c.are_all.ensures ∙ c.if-are_all.true) c.requires
 
 pub assign-requires-clause-places : goal.assign-requires-clause-places
 assign-requires-clause-places c =
