@@ -6,6 +6,7 @@ use Rattle.ql_value.specs.declared.value.Value.{Value}
 use Rattle.ql_syntax.specs.declared.statement.ColumnDef.{ColumnDef}
 use Rattle.ql_syntax.specs.declared.syntax.Select.{Select}
 use Rattle.ql_syntax.specs.declared.typed.Typed.{Typed}
+use Rattle.ql_syntax.specs.declared.typing.Typing.{Typing}
 use Rattle.ql_rel.specs.declared.db.Db.{Db}
 use Rattle.ql_rel.specs.declared.plan.Plan.{Plan}
 use Rattle.ql_rel.specs.declared.schema.Schema.{Schema}
@@ -13,14 +14,16 @@ use Rattle.ql_syntax.specs.Answers.{Answer, then_with}
 use Rattle.ql_rel.specs.Databases.{schema_of, columns_at}
 use Rattle.ql_rel.specs.InsertEffects.{rows_from, new_rows, rows_added, inserts, inserts_shown}
 use Rattle.ql_rel.specs.NewNames.{place_named}
-use Rattle.ql_rel.specs.PlanTypes.{ValuesTyped}
+use Rattle.ql_rel.specs.PlanTypes.{ValuesTyped, RowsSelected}
 use Rattle.ql_rel.specs.SelectRows.{shown_rows}
 use Rattle.ql_rel.specs.WellFormed.{Fits}
 use Rattle.ql_exec.specs.Answers.{Answers}
 use Rattle.ql_exec.specs.Carries.{Changes, Shows}
 use Rattle.ql_exec.specs.declared.fault.ExecFault.{ExecFault}
 use Rattle.ql_exec.specs.declared.fault.ExecFault.TheVariants as fault
+use Rattle.ql_exec.specs.Selections.{AreFor, AreResults}
 use Rattle.ql_exec.proofs.NewRows.{rows_fit}
+use Rattle.ql_exec.proofs.Placed.{placed_fit, results_for}
 
 -- the columns of the table that was found are those at its place
 pub for_columns : (table place : ℕ) (schema : Schema) (columns : List ColumnDef) (p : Plan) → columns ≡ columns_at table schema → table ≡ place → ValuesTyped (columns_at place schema) p → ValuesTyped columns p
@@ -87,3 +90,16 @@ selected_stops T name select p f result None now i h = tt
 selected_stops T name select p f (Ok u) (Some d) now i h = absurd i
 selected_stops T name select p f (Err g) (Some d) now i h =
     subst (λ (z : ExecFault). Changes {T = T} (inserts_shown name select p d) (Err z) now) (sym i) (shown_stops T name select p f d now h)
+
+-- the rows that the SELECT shows are for the columns of the table, and are put together to rows that fit them
+pub shown_for : (table place : ℕ) (schema held : Schema) (columns : List ColumnDef) (types : List Typing) (p : Plan) (targets : List ℕ) (rows : List (List Value)) → columns ≡ columns_at table held → held ≡ schema → table ≡ place → targets ≡ p.targets
+    → RowsSelected types (columns_at place schema) p → AreResults types p rows → AllByRecursion (AreFor columns targets) rows
+shown_for table place schema held columns types p targets rows c k e t typed made =
+    let same : columns ≡ columns_at place schema = c ∙ ap (columns_at table) k ∙ ap (λ (n : ℕ). columns_at n schema) e in
+    let for_these : AllByRecursion (AreFor (columns_at place schema) p.targets) rows = results_for types (columns_at place schema) p rows typed made in
+    subst (λ (ts : List ℕ). AllByRecursion (AreFor columns ts) rows) (sym t) (subst (λ (cs : List ColumnDef). AllByRecursion (AreFor cs p.targets) rows) (sym same) for_these)
+
+pub placed_at : (table : ℕ) (held : Schema) (columns : List ColumnDef) (targets : List ℕ) (rows placed : List (List Value)) → columns ≡ columns_at table held → placed ≡ rows_from targets columns rows → AllByRecursion (AreFor columns targets) rows
+    → AllByRecursion (Fits (columns_at table held)) placed
+placed_at table held columns targets rows placed c e h =
+    subst (λ (cs : List ColumnDef). AllByRecursion (Fits cs) placed) c (subst (AllByRecursion (Fits columns)) (sym e) (placed_fit columns targets rows h))
