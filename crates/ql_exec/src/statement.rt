@@ -14,7 +14,7 @@ use crate::change::change_table;
 use crate::create::create_table;
 use crate::drop::{drop_table, truncate_table};
 use crate::fault::refusal;
-use crate::insert::insert_rows;
+use crate::insert::{insert_rows, insert_selected};
 use crate::select::add_select;
 use ql_edge::Bytes;
 use ql_rel::{Plan, Rel};
@@ -58,7 +58,7 @@ pub fn carry<R: Rel>(
         Statement::DropColumn { table, column } => drop_column(alloc, rel, table, column),
         Statement::Insert { table, source, .. } => match source.get() {
             RowSource::Rows(_) => insert_rows(alloc, rel, table, plan),
-            RowSource::Query(_) => Err(refusal(alloc, LATER)),
+            RowSource::Query(select) => insert_selected(alloc, rel, table, select.get(), plan),
         },
         Statement::Update { table, .. } => change_table(alloc, rel, table, false, plan),
         Statement::Delete { table, .. } => change_table(alloc, rel, table, true, plan),
