@@ -61,7 +61,7 @@ clear_then a b c xs ys whole live sum once first second = edits_then a b c whole
 abbrev pub Removed : Option Contents → Option Contents → ℕ → Type 0
 Removed told now h = IfSome told (λ map. IfSome (content_of h map) (λ content. now ≡ Some (without h map)))
 
-removed_here : (told now : Option Contents) (m : Contents) (h : ℕ) (content : List ℕ) → told ≡ Some m → content_of h m ≡ Some content → IfSome told AreContents → Removed told now h → IsCleared now m (h ∷ [])
+pub removed_here : (told now : Option Contents) (m : Contents) (h : ℕ) (content : List ℕ) → told ≡ Some m → content_of h m ≡ Some content → IfSome told AreContents → Removed told now h → IsCleared now m (h ∷ [])
 removed_here told now m h content is held all gone =
     let a : AreContents m = rw is at all in
     let one : IfSome (content_of h m) (λ c. now ≡ Some (without h m)) = rw is at gone in

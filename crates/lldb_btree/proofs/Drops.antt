@@ -78,10 +78,10 @@ pub leaf_lacks : (k : List ℕ) (pairs : List Pair) (left more : ℕ) (rest back
 leaf_lacks k pairs left more rest back found past some most = (drops k pairs).none (omega (arith, found.1, past.1, some, most))
 
 pub leaf_dropped : (k : List ℕ) (pairs : List Pair) (n left more total : ℕ) (bytes rest front back all : List ℕ) → length pairs ≡ n → bytes ≡ body (map pair_entry pairs) → IsSought true (is_ahead (From k)) (map pair_entry pairs) rest left → PastRead k pairs left back more → more ≡ 0 → FrontOf bytes (length rest) front → total ≡ n - 1 → all ≡ 0 ∷ total ∷ ((front ++ back) ++ []) → IsTakenHere k pairs (Some all)
-leaf_dropped k pairs n left more total bytes rest front back all len is found past no front_of total_is all_is =
+leaf_dropped k pairs n left more total bytes rest front back all len is found past none front_of total_is all_is =
     let s = drops k pairs in
     let tail : List Entry = past_key k (sought k pairs) in
-    let one : length tail + 1 ≡ length (sought k pairs) = omega (arith, found.1, past.1, no) in
+    let one : length tail + 1 ≡ length (sought k pairs) = omega (arith, found.1, past.1, none) in
     let cut : bytes ≡ body s.before ++ body (sought k pairs) = is ∙ ap body s.whole ∙ body_both s.before (sought k pairs) in
     let f : front ≡ body s.before = front_of (body s.before) (body (sought k pairs)) cut (ap length (sym found.0)) in
     let left_body : body (map pair_entry (delete k pairs)) ≡ body s.before ++ body tail = ap body s.cut ∙ body_both s.before tail in

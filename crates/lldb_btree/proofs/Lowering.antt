@@ -19,7 +19,7 @@ use Rattle.lldb_btree.proofs.Moved.{Agree, over_live, over_moved}
 use Rattle.lldb_btree.proofs.Rooted.{was_put, not_dead, handle_live}
 use Rattle.lldb_btree.proofs.Standing.{over_fits, parts_fit, all_left}
 use Rattle.lldb_btree.proofs.Steps.{Got}
-use Rattle.lldb_btree.proofs.Stored.{node_put, apart_once}
+use Rattle.lldb_btree.proofs.Stored.{part_at, node_put, apart_once}
 
 -- what a replacement leaves
 abbrev pub Written : Option Contents → Option Contents → ℕ → List ℕ → Type 0
@@ -58,8 +58,8 @@ pub record Answers (bytes : List ℕ) (r : Option ℕ) : Type 0 where
 enough_of : (bytes : List ℕ) (node : Node) (parts : List Part) → Answers bytes None → bytes ≡ spelling node → node ≡ Inner (map child_of parts) → AllByRecursion FitsChild (map child_of parts) → 2 ≤ count node + 1 → 2 ≤ count node
 enough_of bytes node [] a is named fits some = absurd (omega (arith, some, ap count named))
 enough_of bytes node (q ∷ []) a is named fits some =
-    let no : None ≡ Some q.handle = a.only (child_of q) fits.0 (is ∙ ap spelling named) in
-    absurd (cc (no))
+    let clash : None ≡ Some q.handle = a.only (child_of q) fits.0 (is ∙ ap spelling named) in
+    absurd (cc (clash))
 enough_of bytes node (q ∷ r ∷ parts) a is named fits some = omega (arith, ap count named)
 
 lower_children : (told : Option Contents) (old m : Contents) (d h : ℕ) (before bytes : List ℕ) (pairs : List Pair) (c : CanLower told old m (suc d) h before bytes pairs) → AllByRecursion FitsChild (map child_of c.lifts.over.parts)
@@ -84,13 +84,13 @@ only_of bytes node (q ∷ []) only a is named fits some =
     let e : Some only ≡ Some q.handle = a.only (child_of q) fits.0 (is ∙ ap spelling named) in
     record { x = child_of q; is = named; here = cc (e) }
 only_of bytes node (q ∷ r ∷ parts) only a is named fits some =
-    let no : Some only ≡ None = a.many (map child_of (q ∷ r ∷ parts)) (omega arith) (is ∙ ap spelling named) in
-    absurd (cc (no))
+    let clash : Some only ≡ None = a.many (map child_of (q ∷ r ∷ parts)) (omega arith) (is ∙ ap spelling named) in
+    absurd (cc (clash))
 
 pub lower_only : (told : Option Contents) (old m : Contents) (d h : ℕ) (before bytes : List ℕ) (pairs : List Pair) (c : CanLower told old m d h before bytes pairs) (r : Option ℕ) (only : ℕ) → r ≡ Some only → Answers bytes r → OnlyOne c.node only
 lower_only told old m zero h before bytes pairs c r only some a =
-    let no : Some only ≡ None = sym some ∙ a.leaf pairs (c.spelled ∙ ap spelling c.lifts.over.0) in
-    absurd (cc (no))
+    let clash : Some only ≡ None = sym some ∙ a.leaf pairs (c.spelled ∙ ap spelling c.lifts.over.0) in
+    absurd (cc (clash))
 lower_only told old m (suc d) h before bytes pairs c r only some a =
     let b : Answers bytes (Some only) = rw some at a in
     only_of bytes c.node c.lifts.over.parts only b c.spelled c.lifts.over.named (lower_children told old m d h before bytes pairs c) c.enough
@@ -123,8 +123,8 @@ one_part m d only x (q ∷ []) under pairs each e here takes all =
 
 sole : (told : Option Contents) (old m : Contents) (d h : ℕ) (before bytes : List ℕ) (pairs : List Pair) (only : ℕ) (x : Child) (c : CanLower told old m d h before bytes pairs) → c.node ≡ Inner (x ∷ []) → only ≡ x.handle → Sole m d only c.lifts.under pairs
 sole told old m zero h before bytes pairs only x c is here =
-    let no : Leaf pairs ≡ Inner (x ∷ []) = sym c.lifts.over.0 ∙ is in
-    absurd (cc (no))
+    let clash : Leaf pairs ≡ Inner (x ∷ []) = sym c.lifts.over.0 ∙ is in
+    absurd (cc (clash))
 sole told old m (suc d) h before bytes pairs only x c is here =
     one_part m d only x c.lifts.over.parts c.lifts.under pairs c.lifts.over.each (sym c.lifts.over.named ∙ is) here c.lifts.over.takes c.lifts.over.all
 
@@ -135,6 +135,12 @@ pub only_dead : (told read : Option Contents) (old m : Contents) (d h : ℕ) (be
 only_dead told read old m d h before bytes pairs only x c is here same dead =
     let s = sole told old m d h before bytes pairs only x c is here in
     not_dead read only (spelling s.stands.node) m (same ∙ c.is) (sole_held m d only c.lifts.under pairs s) dead
+
+edits_from : (m new : Contents) (h : ℕ) (us ts vs : List ℕ) → us ≡ ts → Edits m new (h ∷ ts) vs → Edits m new (h ∷ us) vs
+edits_from m new h us ts vs same e = rw same e
+
+node_of : (m : Contents) (d least h : ℕ) (ps qs : List Pair) (us : List ℕ) → ps ≡ qs → IsNode (IsOver m d) m least (part_at h qs us) → IsNode (IsOver m d) m least (part_at h ps us)
+node_of m d least h ps qs us same n = rw same n
 
 -- a root whose only child was read and removed
 record Bare (mid : Option Contents) (m : Contents) (d h only : ℕ) (under node : List ℕ) (pairs : List Pair) (s : Sole m d only under pairs) : Type 0 where
@@ -161,7 +167,7 @@ bare told read mid old m d h before bytes node pairs only c s got same all gone 
     record {
       new = x.new;
       told = x.told;
-      edits = rw s.under_is edits;
+      edits = edits_from m x.new h c.lifts.under (only ∷ a.under) (h ∷ a.under) s.under_is edits;
       over = over_moved m x.new s.low a.node s.q.pairs a.under a.over agree;
       content = c.live.0;
       live = edit_stays m x.new (only ∷ []) [] h x.edits apart (live h (times_here h a.under)) ∙ c.live.1;
@@ -189,7 +195,7 @@ root_lowered told read mid now old m d h before bytes node pairs only x c is her
       footprint_now = h ∷ a.under;
       tree = record {
         d = s.low;
-        top = rw s.pairs_is (node_put b.new s.low (least_of s.low) h a.node s.q.pairs a.under b.over (apart_once h a.under (b.edits.once h)) c.low least a.few);
+        top = node_of new s.low (least_of s.low) h pairs s.q.pairs a.under s.pairs_is (node_put b.new s.low (least_of s.low) h a.node s.q.pairs a.under b.over (apart_once h a.under (b.edits.once h)) c.low least a.few);
         depth = refl;
         sorted = c.sorted;
         once = b.edits.once;

@@ -1,5 +1,5 @@
 -- Children of a node some of which were stored, and the neighbour with which a child shares.
-use Rattle.std.proofs.Common.{◌≡◌, ℕ, suc, ◌+◌, ◌-◌, ◌^◌, ◌<◌, ◌≤◌, Bool, true, false, List, [], ◌∷◌, ◌++◌, length, map, Option, Some, None, IfSome, Result, IfOk, refl, sym, ap, ◌∙◌, arith, append_assoc, append-nil, length-append}
+use Rattle.std.proofs.Common.{◌≡◌, ℕ, zero, suc, ◌+◌, ◌-◌, ◌^◌, ◌<◌, ◌≤◌, Bool, true, false, List, [], ◌∷◌, ◌++◌, length, map, Option, Some, None, IfSome, Result, IfOk, refl, sym, ap, ◌∙◌, arith, append_assoc, append-nil, length-append}
 use Rattle.std.specs.List.{AllByRecursion}
 use Rattle.lldb_base.specs.Contents.{Contents, content_of}
 use Rattle.lldb_base.specs.Heaps.{MayBeDead}
@@ -32,10 +32,10 @@ pairs_amid l ps r = pairs_of l ++ (ps ++ pairs_of r)
 pub times_amid : (n : ℕ) (l : List Part) (before : List ℕ) (r : List Part) → times n (amid l before r) ≡ times n (footprint_of l) + (times n before + times n (footprint_of r))
 times_amid n l before r = omega (arith, times_append n (footprint_of l) (before ++ footprint_of r), times_append n before (footprint_of r))
 
-length_amid : (l : List Part) (before : List ℕ) (r : List Part) → length (amid l before r) ≡ length (footprint_of l) + (length before + length (footprint_of r))
+pub length_amid : (l : List Part) (before : List ℕ) (r : List Part) → length (amid l before r) ≡ length (footprint_of l) + (length before + length (footprint_of r))
 length_amid l before r = omega (arith, length-append (footprint_of l) (before ++ footprint_of r), length-append before (footprint_of r))
 
-footprints_amid : (l m r : List Part) → footprint_of (l ++ (m ++ r)) ≡ amid l (footprint_of m) r
+pub footprints_amid : (l m r : List Part) → footprint_of (l ++ (m ++ r)) ≡ amid l (footprint_of m) r
 footprints_amid l m r = footprints_both l (m ++ r) ∙ ap (λ (x : List ℕ). footprint_of l ++ x) (footprints_both m r)
 
 -- two runs of live handles
@@ -91,7 +91,7 @@ put_amid now m d many l r mid before ps pairs found n front out back all left ri
     }
 
 -- a child with entries enough can be stored
-pub put_store : (told : Option Contents) (m : Contents) (d many child : ℕ) (front node back before : List ℕ) (pairs : List Pair) (c : CanPut told m d many child front node back before pairs) → 16 ≤ count c.loose.node → CanStore told m d child node c.middle c.under
+abbrev pub put_store : (told : Option Contents) (m : Contents) (d many child : ℕ) (front node back before : List ℕ) (pairs : List Pair) (c : CanPut told m d many child front node back before pairs) → 16 ≤ count c.loose.node → CanStore told m d child node c.middle c.under
 put_store told m d many child front node back before pairs c enough = record {
   is = c.is;
   node = c.loose.node;
@@ -202,7 +202,7 @@ beside told m d many child front node back before pairs c near far other false i
     }
 
 -- the neighbour as it was read
-other_loose : (told : Option Contents) (m : Contents) (d many child : ℕ) (node before : List ℕ) (pairs middle : List Pair) (under front back : List ℕ) (other : ℕ) (behind : Bool) (next : List ℕ) (b : Beside told m d many child node before pairs middle under front back other behind) → told ≡ Some m → Got told other next → IsLoose m d other next b.q.pairs b.stands.under
+abbrev other_loose : (told : Option Contents) (m : Contents) (d many child : ℕ) (node before : List ℕ) (pairs middle : List Pair) (under front back : List ℕ) (other : ℕ) (behind : Bool) (next : List ℕ) (b : Beside told m d many child node before pairs middle under front back other behind) → told ≡ Some m → Got told other next → IsLoose m d other next b.q.pairs b.stands.under
 other_loose told m d many child node before pairs middle under front back other behind next b is got =
     let held : content_of other m ≡ Some (spelling b.stands.node) = ap (λ (h : ℕ). content_of h m) b.here ∙ b.stands.held in
     let one : IfSome (content_of other m) (λ content. next ≡ content) = rw is at got in
@@ -223,21 +223,23 @@ other_dead told m d many child node before pairs middle under front back other b
 pub can_mend : (told read : Option Contents) (m : Contents) (d many child : ℕ) (front node back before : List ℕ) (pairs : List Pair) (c : CanPut told m d many child front node back before pairs) (near far : List ℕ) (other : ℕ) (behind : Bool) (next : List ℕ) (b : Beside told m d many child node before pairs c.middle c.under near far other behind) → Got told other next → read ≡ told → CanMendWith behind read m d child other node next c.middle b.q.pairs c.under b.stands.under
 can_mend told read m d many child front node back before pairs c near far other true next b got same =
     let loose : IsLoose m d other next b.q.pairs b.stands.under = other_loose told m d many child node before pairs c.middle c.under near far other true next b c.is got in
+    let many : 16 ≤ count loose.node = b.stands.enough in
     record {
       is = same ∙ c.is;
       one = c.loose;
       two = loose;
       once = λ n. omega (arith, c.once n, ap (times n) b.before_is, times_amid n b.l ((child ∷ c.under) ++ (other ∷ b.stands.under)) b.r);
-      enough = omega (arith, b.stands.enough);
+      enough = omega (arith, many);
     }
 can_mend told read m d many child front node back before pairs c near far other false next b got same =
     let loose : IsLoose m d other next b.q.pairs b.stands.under = other_loose told m d many child node before pairs c.middle c.under near far other false next b c.is got in
+    let many : 16 ≤ count loose.node = b.stands.enough in
     record {
       is = same ∙ c.is;
       one = loose;
       two = c.loose;
       once = λ n. omega (arith, c.once n, ap (times n) b.before_is, times_amid n b.l ((other ∷ b.stands.under) ++ (child ∷ c.under)) b.r);
-      enough = omega (arith, b.stands.enough);
+      enough = omega (arith, many);
     }
 
 -- what stands where a child and its neighbour were stored

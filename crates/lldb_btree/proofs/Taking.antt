@@ -2,7 +2,6 @@
 use Rattle.std.proofs.Common.{◌≡◌, ℕ, zero, suc, ◌+◌, ◌-◌, ◌*◌, ◌<◌, ◌≤◌, Bool, true, false, List, [], ◌∷◌, ◌++◌, length, map, Option, Some, None, Result, Ok, Err, IfOk, refl, sym, ap, ◌∙◌, arith, length-append, append-nil}
 use Rattle.std.specs.List.{AllByRecursion}
 use Rattle.lldb_base.specs.Contents.{Contents, content_of}
-use Rattle.lldb_base.specs.Heaps.{MayBeDead}
 use Rattle.lldb_base.specs.declared.trouble.Trouble.{Trouble}
 use Rattle.lldb_btree.specs.declared.node.Child.{Child}
 use Rattle.lldb_btree.specs.declared.node.Node.TheVariants.{Leaf, Inner}
@@ -11,7 +10,7 @@ use Rattle.lldb_btree.specs.Changes.{Becomes, Lifts, CanEdit}
 use Rattle.lldb_btree.specs.Footprints.{times, Edits}
 use Rattle.lldb_btree.specs.Nodes.{count, body, spelling, pair_entry}
 use Rattle.lldb_btree.specs.Pairs.{FitsPair, find, delete}
-use Rattle.lldb_btree.specs.Removal.{Has, WhereNone, CanTake, IsReduced, IsTaken, IsTakenHere, CanPut, IsPut}
+use Rattle.lldb_btree.specs.Removal.{Has, CanTake, IsReduced, IsTaken, IsTakenHere, CanPut, IsPut}
 use Rattle.lldb_btree.specs.Splicing.{AddsNodes}
 use Rattle.lldb_btree.specs.Trees.{Part, child_of, pairs_of, footprint_of, IsNode, IsOver, least_of}
 use Rattle.lldb_btree.proofs.Below.{NoEdit, HeadRead, WayRead, Under, as_leaf, as_inner, clash, edit_kept, way_under}
@@ -22,7 +21,7 @@ use Rattle.lldb_btree.proofs.Parents.{counts, parent}
 use Rattle.lldb_btree.proofs.Putting.{amid, pairs_amid, times_amid, length_amid, footprints_amid, apart_moved, edits_amid}
 use Rattle.lldb_btree.proofs.Setting.{one_live}
 use Rattle.lldb_btree.proofs.Standing.{all_left, all_right, parts_count}
-use Rattle.lldb_btree.proofs.Steps.{Got, no_walk_dead}
+use Rattle.lldb_btree.proofs.Steps.{Got}
 
 -- nothing stands below which a key can be removed
 abbrev pub NoTake : Option Contents → ℕ → ℕ → Type 0
@@ -30,9 +29,6 @@ NoTake told handle room = (m : Contents) (d least : ℕ) (p : Part) → CanTake 
 
 pub no_take : (told : Option Contents) (handle room : ℕ) → NoEdit told handle room → NoTake told handle room
 no_take told handle room none m d least p t = none m d least p t.edit
-
-pub take_dead : (told : Option Contents) (handle room : ℕ) → MayBeDead handle told → NoTake told handle room
-take_dead told handle room dead m d least p t = no_walk_dead told handle room dead m d least p t.edit.walk
 
 -- a leaf with a key removed
 leaf_reduced : (told now : Option Contents) (m : Contents) (least handle room : ℕ) (p : Part) (k bytes : List ℕ) → CanEdit told m zero least p handle room → now ≡ told → bytes ≡ spelling (Leaf (delete k p.pairs)) → IsReduced now m zero least p (delete k p.pairs) bytes
@@ -66,14 +62,6 @@ leaf_taken told now handle room bytes rest leaf n k r got head on same took m ze
     let a = as_leaf told handle room bytes rest leaf n got head m least p t.edit in
     if_ok_also (λ x. IsTakenHere k p.pairs x) (λ x. IsTaken now m zero least p k x) r (λ x h. leaf_took told now m least handle room p k t.edit same x h) (took p.pairs a.1.0 a.1.1 a.1.2)
 leaf_taken told now handle room bytes rest leaf n k r got head on same took m (suc d) least p t = clash leaf on (as_inner told handle room bytes rest leaf n got head m d least p t.edit).0
-
--- an inner node has two children at least
-pub narrow : (told : Option Contents) (handle room : ℕ) (bytes rest : List ℕ) (leaf : Bool) (n : ℕ) → Got told handle bytes → HeadRead bytes leaf n rest → leaf ≡ false → n < 2 → NoTake told handle room
-narrow told handle room bytes rest leaf n got head off low m zero least p t = clash leaf (as_leaf told handle room bytes rest leaf n got head m least p t.edit).0 off
-narrow told handle room bytes rest leaf n got head off low m (suc d) least p t =
-    let a = as_inner told handle room bytes rest leaf n got head m d least p t.edit in
-    let many : count t.edit.walk.stands.node ≡ length (map child_of t.edit.walk.stands.over.parts) = ap count t.edit.walk.stands.over.named in
-    absurd (omega (arith, low, a.1.2, many, t.wide, t.edit.walk.stands.enough))
 
 -- a removal goes on below a child, and what comes of it is put back here
 pub record Takes (read : Option Contents) (m : Contents) (d least room many : ℕ) (p : Part) (k front back : List ℕ) (child : ℕ) : Type 0 where
@@ -254,13 +242,3 @@ put_taken told read mid now handle room n k front back node all child r go below
     let h : IsTaken mid m g.low 16 g.q k (Some node) = rw some at below m g.low 16 g.q g.take in
     let s = put h.1.new g.low (amid g.l (child ∷ h.1.lifts.under) g.r) (pairs_amid g.l (delete k g.q.pairs) g.r) (g.ready mid node h.1) in
     ((h.0.0, g.found ∙ h.0.1), g.up mid now node all h.1 s)
-
--- an answer on what is kept where it is nothing
-pub kept_anyway : {K : Type 0} (r : Result (Option (List ℕ)) Trouble) → K → IfOk r (λ x. WhereNone x K)
-kept_anyway (Ok None) k = k
-kept_anyway (Ok (Some x)) k = tt
-kept_anyway (Err e) k = tt
-
-pub kept_none : {K : Type 0} (x : Option (List ℕ)) → x ≡ None → WhereNone x K → K
-kept_none None e k = k
-kept_none (Some x) e k = absurd (cc (e))

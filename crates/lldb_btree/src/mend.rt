@@ -5,7 +5,7 @@ ghost use Rattle.lldb_base.specs.Contents.{Contents};
 ghost use Rattle.lldb_base.specs.Trouble.{IsCausedTrouble, Refuses};
 ghost use Rattle.lldb_btree.specs.Changes.{IsStored};
 ghost use Rattle.lldb_btree.specs.Frames.{KeepsLevels};
-ghost use Rattle.lldb_btree.specs.Nodes.{Entry, body, child_entry, FitsChild};
+ghost use Rattle.lldb_btree.specs.Nodes.{Entry, body, child_entry, count, FitsChild};
 ghost use Rattle.lldb_btree.specs.Removal.{CanMend, CanMendWith, CanPut, IsBeside, IsPut, either_way};
 ghost use Rattle.lldb_btree.specs.Splicing.{AddsNodes, AreNode, IsFullFor};
 ghost use Rattle.lldb_btree.specs.Trees.{Part, child_of};
@@ -48,7 +48,8 @@ fn neighbour<'a>(
         → back.now ≡ body (map child_entry (map child_of r)) → IsSomeAnd result
         (λ x. IsBeside l r x.0.now x.1 x.2.now x.3) }
 {
-    if back.is_empty() {
+    let left = back.len();
+    if left == 0 {
         let (rest, other) = last_child(front, before)?;
         return Some((rest, other, back, false));
     }
@@ -151,7 +152,7 @@ fn mend_with<H: Heap>(
 fn refill<H: Heap>(
     alloc: Global,
     heap: &mut H,
-    count: usize,
+    many: usize,
     front: &[u8],
     child: u64,
     node: &[u8],
@@ -159,22 +160,22 @@ fn refill<H: Heap>(
 ) -> Result<Bytes, Trouble>
     requires ready { IsTrue (H.is_ready heap.old) }
     requires depth { 1 ≤ length (H.saved heap.old) }
-    requires some { 2 ≤ count }
-    requires few { count ≤ 32 }
+    requires some { 2 ≤ many }
+    requires few { many ≤ 32 }
     ensures put { (m : Contents) (d : ℕ) (before : List ℕ) (pairs : List pair.Pair) → CanPut
-        (H.map_of heap.old) m d count child front.now node.now back.now before pairs → IfOk result
-        (λ all. IsPut (H.map_of heap.new) m d count before pairs all) }
+        (H.map_of heap.old) m d many child front.now node.now back.now before pairs → IfOk result
+        (λ all. IsPut (H.map_of heap.new) m d many before pairs all) }
     ensures ready { OnOk result (H.is_ready heap.new ≡ true) }
     ensures refuses { Refuses (IsFullFor (H.limit_of heap.old) (H.size_of heap.new))
         ((m : Contents) (d : ℕ) (before : List ℕ) (pairs : List pair.Pair) → CanPut
-        (H.map_of heap.old) m d count child front.now node.now back.now before pairs → ⊥) result }
+        (H.map_of heap.old) m d many child front.now node.now back.now before pairs → ⊥) result }
     ensures grows { AddsNodes 2 (H.size_of heap.old) (H.size_of heap.new) }
     ensures reads { H.reads_of heap.new ≤ H.reads_of heap.old + 1 }
     ensures frame { KeepsLevels H.saved H.saved_sizes H.limit_of H.is_sound H.told H.left H.fixed
         heap.old heap.new }
     ensures cause { IsCausedTrouble result (H.faults heap.old) (H.faults heap.new) }
 {
-    let Some((front, other, back, behind)) = neighbour(front, count - 1, back) else {
+    let Some((front, other, back, behind)) = neighbour(front, many - 1, back) else {
         return Err(Trouble::Damaged);
     };
     let mut next = Bytes::new(alloc);
@@ -183,7 +184,7 @@ fn refill<H: Heap>(
     let all = joined(
         alloc,
         false,
-        count + stored.count - 2,
+        many + stored.count - 2,
         front,
         stored.entries.as_slice(),
         back,
@@ -195,7 +196,7 @@ fn refill<H: Heap>(
 fn keep<H: Heap>(
     alloc: Global,
     heap: &mut H,
-    count: usize,
+    many: usize,
     front: &[u8],
     child: u64,
     node: &[u8],
@@ -203,15 +204,15 @@ fn keep<H: Heap>(
 ) -> Result<Bytes, Trouble>
     requires ready { IsTrue (H.is_ready heap.old) }
     requires depth { 1 ≤ length (H.saved heap.old) }
-    requires few { count ≤ 32 }
+    requires few { many ≤ 32 }
     ensures put { (m : Contents) (d : ℕ) (before : List ℕ) (pairs : List pair.Pair) → (c : CanPut
-        (H.map_of heap.old) m d count child front.now node.now back.now before pairs) → 16
-        ≤ count c.loose.node → IfOk result (λ all. IsPut (H.map_of heap.new) m d count before pairs
+        (H.map_of heap.old) m d many child front.now node.now back.now before pairs) → 16
+        ≤ count c.loose.node → IfOk result (λ all. IsPut (H.map_of heap.new) m d many before pairs
         all) }
     ensures ready { OnOk result (H.is_ready heap.new ≡ true) }
     ensures refuses { Refuses (IsFullFor (H.limit_of heap.old) (H.size_of heap.new))
         ((m : Contents) (d : ℕ) (before : List ℕ) (pairs : List pair.Pair) → (c : CanPut
-        (H.map_of heap.old) m d count child front.now node.now back.now before pairs) → 16
+        (H.map_of heap.old) m d many child front.now node.now back.now before pairs) → 16
         ≤ count c.loose.node → ⊥) result }
     ensures grows { AddsNodes 1 (H.size_of heap.old) (H.size_of heap.new) }
     ensures reads { H.reads_of heap.new ≡ H.reads_of heap.old }
@@ -220,7 +221,7 @@ fn keep<H: Heap>(
     ensures cause { IsCausedTrouble result (H.faults heap.old) (H.faults heap.new) }
 {
     let stored = store_one(alloc, heap, child, node, &[], false)?;
-    let all = joined(alloc, false, count, front, stored.entries.as_slice(), back)?;
+    let all = joined(alloc, false, many, front, stored.entries.as_slice(), back)?;
     Ok(all)
 }
 
@@ -229,7 +230,7 @@ fn keep<H: Heap>(
 pub(crate) fn put_back<H: Heap>(
     alloc: Global,
     heap: &mut H,
-    count: usize,
+    many: usize,
     front: &[u8],
     child: u64,
     node: &[u8],
@@ -237,15 +238,15 @@ pub(crate) fn put_back<H: Heap>(
 ) -> Result<Bytes, Trouble>
     requires ready { IsTrue (H.is_ready heap.old) }
     requires depth { 1 ≤ length (H.saved heap.old) }
-    requires some { 2 ≤ count }
-    requires few { count ≤ 32 }
+    requires some { 2 ≤ many }
+    requires few { many ≤ 32 }
     ensures put { (m : Contents) (d : ℕ) (before : List ℕ) (pairs : List pair.Pair) → CanPut
-        (H.map_of heap.old) m d count child front.now node.now back.now before pairs → IfOk result
-        (λ all. IsPut (H.map_of heap.new) m d count before pairs all) }
+        (H.map_of heap.old) m d many child front.now node.now back.now before pairs → IfOk result
+        (λ all. IsPut (H.map_of heap.new) m d many before pairs all) }
     ensures ready { OnOk result (H.is_ready heap.new ≡ true) }
     ensures refuses { Refuses (IsFullFor (H.limit_of heap.old) (H.size_of heap.new))
         ((m : Contents) (d : ℕ) (before : List ℕ) (pairs : List pair.Pair) → CanPut
-        (H.map_of heap.old) m d count child front.now node.now back.now before pairs → ⊥) result }
+        (H.map_of heap.old) m d many child front.now node.now back.now before pairs → ⊥) result }
     ensures grows { AddsNodes 2 (H.size_of heap.old) (H.size_of heap.new) }
     ensures reads { H.reads_of heap.new ≤ H.reads_of heap.old + 1 }
     ensures frame { KeepsLevels H.saved H.saved_sizes H.limit_of H.is_sound H.told H.left H.fixed
@@ -256,8 +257,8 @@ pub(crate) fn put_back<H: Heap>(
         return Err(Trouble::Damaged);
     };
     if entries < LEAST {
-        refill(alloc, heap, count, front, child, node, back)
+        refill(alloc, heap, many, front, child, node, back)
     } else {
-        keep(alloc, heap, count, front, child, node, back)
+        keep(alloc, heap, many, front, child, node, back)
     }
 }

@@ -215,7 +215,7 @@ fn leaves_others(alloc: Global) -> Result<bool, Trouble> {
         return Err(Trouble::Failed);
     }
     plot.heap.read(beside, &mut content)?;
-    Ok(content.as_slice() == b"beside" && plot.is_well()? && counted(&mut plot, 600)? == 600)
+    Ok(content.as_slice() == b"beside".as_slice() && plot.is_well()? && counted(&mut plot, 600)? == 600)
 }
 
 #[test]
