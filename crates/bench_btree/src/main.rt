@@ -181,6 +181,8 @@ fn main(rt: HostRuntime) -> io::Result<()> {
     let start = Instant::now(&rt)?;
     let removed = emptied(alloc, &mut heap, tree, count);
     let removes = start.elapsed(&rt)?.as_micros();
-    println!(rt; "{of_rising} and {levels} levels, {found} found, {passed} passed, {removed} removed, {read} read")?;
+    println!(rt;
+        "{of_rising} and {levels} levels, {found} found, {passed} passed, {removed} removed, {read} read"
+    )?;
     eprintln!(rt; "{rising} {random} {gets} {pass} {removes} {reads} us")
 }

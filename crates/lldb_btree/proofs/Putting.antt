@@ -121,8 +121,7 @@ put_count told m d many child front node back before pairs n c whole = (whole (i
 pub put_sides : (told : Option Contents) (m : Contents) (d many child : ℕ) (front node back before : List ℕ) (pairs : List Pair) (n : ℕ) (c : CanPut told m d many child front node back before pairs) → 2 ≤ many → n ≡ many - 1 → Sides c.l c.r front n back
 put_sides told m d many child front node back before pairs n c some is =
     let fits : AllByRecursion FitsPair (pairs_amid c.l c.middle c.r) = rw c.pairs_are at c.fits in
-    let rest : AllByRecursion FitsPair (c.middle ++ pairs_of c.r) = all_right FitsPair (pairs_of c.l) (c.middle ++ pairs_of c.r) fits in
-    (
+    let rest : AllByRecursion FitsPair (c.middle ++ pairs_of c.r) = all_right FitsPair (pairs_of c.l) (c.middle ++ pairs_of c.r) fits in (
       parts_fit m d c.l c.each_l (all_left FitsPair (pairs_of c.l) (c.middle ++ pairs_of c.r) fits),
       parts_fit m d c.r c.each_r (all_right FitsPair c.middle (pairs_of c.r) rest),
       omega (arith, some, c.counted),

@@ -38,12 +38,7 @@ fn only_child(bytes: &[u8]) -> Option<u64>
 }
 
 /// Gives a root's handle the bytes of its only child, whose handle is removed.
-fn replace_root<H: Heap>(
-    alloc: Global,
-    heap: &mut H,
-    handle: u64,
-    only: u64,
-) -> Result<(), Trouble>
+fn replace_root<H: Heap>(alloc: Global, heap: &mut H, handle: u64, only: u64) -> Result<(), Trouble>
     requires ready { IsTrue (H.is_ready heap.old) }
     requires depth { 1 ≤ length (H.saved heap.old) }
     ensures lowered { (old m : Contents) (d : ℕ) (before bytes : List ℕ) (pairs : List pair.Pair)

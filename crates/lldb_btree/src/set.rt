@@ -120,7 +120,11 @@ fn set_in_leaf(alloc: Global, count: usize, bytes: &[u8], put: &Put) -> Result<C
 }
 
 /// The handle of the child where a search goes on, with the bytes before its entry and behind it.
-pub(crate) fn way<'a>(bytes: &'a [u8], count: usize, from: &Bound) -> Option<(&'a [u8], u64, &'a [u8])>
+pub(crate) fn way<'a>(
+    bytes: &'a [u8],
+    count: usize,
+    from: &Bound,
+) -> Option<(&'a [u8], u64, &'a [u8])>
     ensures { (children : List child.Child) → AllByRecursion FitsChild children → 0
         < length children → length children ≡ count → bytes.now ≡ body (map child_entry children)
         → IsSomeAnd result (λ r. IsWay (is_ahead from.now) children r.0.now r.1 r.2.now) }

@@ -135,12 +135,7 @@ impl Tree {
     /// Removes a key with its value, and answers false where no pair has it: then nothing has changed. A node with too few
     /// entries shares with a neighbour or becomes one with it, and a root with one child left gives way to that. After a refusal
     /// the tree is to be rolled back.
-    pub fn remove<H: Heap>(
-        &self,
-        alloc: Global,
-        heap: &mut H,
-        key: &[u8],
-    ) -> Result<bool, Trouble>
+    pub fn remove<H: Heap>(&self, alloc: Global, heap: &mut H, key: &[u8]) -> Result<bool, Trouble>
         requires ready { IsTrue (H.is_ready heap.old) }
         requires depth { 1 ≤ length (H.saved heap.old) }
         ensures removed { (map : Contents) (levels : ℕ) (pairs : List pair.Pair)

@@ -161,7 +161,9 @@ fn emptied(plot: &mut Plot, case: &Case) -> Result<Option<u32>, Trouble> {
             return Ok(Some(turn));
         }
         let left = case.count.saturating_sub(turn + 1);
-        if turn % 100 < 40 && !(plot.is_well()? && counted(plot, case.count)? == left) {
+        if (left < 40 || turn % 100 == 0)
+            && !(plot.is_well()? && counted(plot, case.count)? == left)
+        {
             return Ok(Some(turn));
         }
     }
@@ -215,7 +217,11 @@ fn leaves_others(alloc: Global) -> Result<bool, Trouble> {
         return Err(Trouble::Failed);
     }
     plot.heap.read(beside, &mut content)?;
-    Ok(content.as_slice() == b"beside".as_slice() && plot.is_well()? && counted(&mut plot, 600)? == 600)
+    Ok(
+        content.as_slice() == b"beside".as_slice()
+            && plot.is_well()?
+            && counted(&mut plot, 600)? == 600,
+    )
 }
 
 #[test]

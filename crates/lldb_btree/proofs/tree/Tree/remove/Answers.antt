@@ -66,4 +66,3 @@ pub returns-clause-removed : goal.returns-clause-removed
 returns-clause-removed g c =
     let taken : RootTaken (g.H.Heap.map_of c.args.heap.now) (g.H.Heap.map_of c.remove_below.new.heap) c.args.self.now.handle c.args.key.now c.in_ok-root.root = rw (sym c.in_ok-wanted.ensures) c.in_ok-root.ensures.taken in
     root_removed (g.H.Heap.map_of c.args.heap.now) (g.H.Heap.map_of c.remove_below.new.heap) (g.H.Heap.map_of c.lower_root.new.heap) c.args.self.now.handle c.args.key.now c.as_slice.result.now c.in_ok-root.root taken (c.in-Some.is ∙ ap (λ (x : List ℕ). Some x) (sym c.as_slice.ensures)) c.in_ok-lower_root.ensures.lowered
-
