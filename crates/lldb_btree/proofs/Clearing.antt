@@ -1,5 +1,5 @@
 -- Nodes that are removed, and what is left of the heap.
-use Rattle.std.proofs.Common.{◌≡◌, ⊎_elim, ℕ, zero, suc, ◌+◌, ◌-◌, ◌<◌, ◌≤◌, Bool, true, false, cond, eqb, List, [], ◌∷◌, ◌++◌, length, map, Option, Some, None, IfSome, Result, OnOk, refl, sym, ap, ◌∙◌, arith, length-append}
+use Rattle.std.proofs.Common.{◌≡◌, ⊎_elim, ℕ, zero, suc, ◌+◌, ◌-◌, ◌≤◌, Bool, true, false, cond, eqb, List, [], ◌∷◌, ◌++◌, length, map, Option, Some, None, IfSome, Result, OnOk, refl, sym, ap, ◌∙◌, arith, length-append}
 use Rattle.std.specs.declared.cmp.Ordering.{Ordering}
 use Rattle.std.specs.declared.cmp.Ordering.TheVariants.{Less, Equal, Greater}
 use Rattle.std.specs.Cmp.{nat_cmp_total, tied_itself}
@@ -14,7 +14,6 @@ use Rattle.lldb_base.specs.Contents.{Contents, content_of, without, AreContents}
 use Rattle.lldb_base.specs.Heaps.{MayBeDead}
 use Rattle.lldb_base.specs.declared.trouble.Trouble.{Trouble}
 use Rattle.lldb_btree.specs.declared.node.Child.{Child}
-use Rattle.lldb_btree.specs.declared.node.Pair.{Pair}
 use Rattle.lldb_btree.specs.Changes.{CanEdit, CanClear}
 use Rattle.lldb_btree.specs.Footprints.{times, unless, Edits}
 use Rattle.lldb_btree.specs.Nodes.{entry_bytes, body, child_entry, spelling, FitsChild}

@@ -1,14 +1,12 @@
 -- A key that is removed from a leaf, as entries and as bytes.
-use Rattle.std.proofs.Common.{◌≡◌, ℕ, zero, suc, ◌+◌, ◌-◌, ◌<◌, ◌≤◌, true, false, cond, ◌||◌, List, [], ◌∷◌, ◌++◌, length, map, Option, Some, None, refl, sym, ap, ◌∙◌, arith, append-nil, length-append}
+use Rattle.std.proofs.Common.{◌≡◌, ℕ, ◌+◌, ◌-◌, ◌<◌, ◌≤◌, true, List, [], ◌∷◌, ◌++◌, length, map, Some, None, refl, sym, ap, ◌∙◌, arith, append-nil, length-append}
 use Rattle.std.specs.declared.cmp.Ordering.{Ordering}
 use Rattle.std.specs.declared.cmp.Ordering.TheVariants.{Less, Equal, Greater}
-use Rattle.std.specs.List.{AllByRecursion}
 use Rattle.std.specs.Ordering.{match_ordering}
 use Rattle.lldb_btree.specs.declared.bound.Bound.TheVariants.{From}
-use Rattle.lldb_btree.specs.declared.node.Node.TheVariants.{Leaf}
 use Rattle.lldb_btree.specs.declared.node.Pair.{Pair}
 use Rattle.lldb_btree.specs.Bounds.{is_ahead}
-use Rattle.lldb_btree.specs.Nodes.{Entry, body, spelling, pair_entry}
+use Rattle.lldb_btree.specs.Nodes.{Entry, body, pair_entry}
 use Rattle.lldb_btree.specs.Pairs.{order, find, delete}
 use Rattle.lldb_btree.specs.Reading.{IsSought}
 use Rattle.lldb_btree.specs.Removal.{Has, IsTakenHere}

@@ -1,5 +1,5 @@
 -- A root from below which a key was removed, as it is written.
-use Rattle.std.proofs.Common.{◌≡◌, ℕ, zero, suc, ◌+◌, ◌*◌, ◌<◌, ◌≤◌, Bool, true, List, [], ◌∷◌, ◌++◌, length, map, Option, Some, None, IfSome, refl, sym, ap, ◌∙◌, arith, append-nil}
+use Rattle.std.proofs.Common.{◌≡◌, ℕ, zero, suc, ◌+◌, ◌≤◌, List, [], ◌∷◌, length, map, Option, Some, None, IfSome, refl, sym, ap, ◌∙◌, arith, append-nil}
 use Rattle.std.specs.List.{AllByRecursion}
 use Rattle.lldb_base.specs.Contents.{Contents, content_of, with_content, AreContents}
 use Rattle.lldb_base.specs.Heaps.{MayBeDead}
@@ -17,7 +17,7 @@ use Rattle.lldb_btree.proofs.Edited.{Live, times_here, times_self, edits_then, e
 use Rattle.lldb_btree.proofs.Lengths.{spelled_short}
 use Rattle.lldb_btree.proofs.Moved.{Agree, over_live, over_moved}
 use Rattle.lldb_btree.proofs.Rooted.{was_put, not_dead, handle_live}
-use Rattle.lldb_btree.proofs.Standing.{over_fits, parts_fit, all_left}
+use Rattle.lldb_btree.proofs.Standing.{over_fits, parts_fit}
 use Rattle.lldb_btree.proofs.Steps.{Got}
 use Rattle.lldb_btree.proofs.Stored.{part_at, node_put, apart_once}
 

@@ -1,20 +1,17 @@
 -- Two neighbours that are stored together.
-use Rattle.std.proofs.Common.{◌≡◌, ℕ, suc, ◌+◌, ◌<◌, ◌≤◌, Bool, true, false, List, [], ◌∷◌, ◌++◌, length, Option, Some, None, IfSome, Result, Ok, Err, IfOk, refl, sym, ap, ◌∙◌, arith, length-append, append-nil}
-use Rattle.std.specs.List.{AllByRecursion}
+use Rattle.std.proofs.Common.{◌≡◌, ℕ, ◌+◌, ◌<◌, ◌≤◌, Bool, List, [], ◌∷◌, ◌++◌, length, Option, IfSome, Result, Ok, Err, IfOk, sym, ◌∙◌, arith, length-append}
 use Rattle.lldb_base.specs.Contents.{Contents, content_of, AreContents}
 use Rattle.lldb_base.specs.Heaps.{MayBeDead}
 use Rattle.lldb_base.specs.declared.trouble.Trouble.{Trouble}
-use Rattle.lldb_btree.specs.declared.node.Node.{Node}
 use Rattle.lldb_btree.specs.declared.node.Pair.{Pair}
 use Rattle.lldb_btree.specs.declared.store.Stored.{Stored}
 use Rattle.lldb_btree.specs.Changes.{CanStore, IsStored}
 use Rattle.lldb_btree.specs.Footprints.{times, Edits}
-use Rattle.lldb_btree.specs.Nodes.{Entry, is_leaf, entries, count, spelling}
+use Rattle.lldb_btree.specs.Nodes.{Entry, is_leaf, entries}
 use Rattle.lldb_btree.specs.Pairs.{FitsPair}
-use Rattle.lldb_btree.specs.Reading.{mark}
-use Rattle.lldb_btree.specs.Removal.{CanMend, CanMendWith, IsLoose, either_way}
+use Rattle.lldb_btree.specs.Removal.{CanMend, IsLoose}
 use Rattle.lldb_btree.specs.Splicing.{AreNode}
-use Rattle.lldb_btree.specs.Trees.{footprint_of, IsOver, IsCleared}
+use Rattle.lldb_btree.specs.Trees.{footprint_of, IsCleared}
 use Rattle.lldb_btree.proofs.Clearing.{Removed, removed_here}
 use Rattle.lldb_btree.proofs.Edited.{Live, times_append, times_self, edits_then, edits_in, edit_stays}
 use Rattle.lldb_btree.proofs.Joins.{Join, over_join}

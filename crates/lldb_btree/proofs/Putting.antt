@@ -1,5 +1,5 @@
 -- Children of a node some of which were stored, and the neighbour with which a child shares.
-use Rattle.std.proofs.Common.{◌≡◌, ℕ, zero, suc, ◌+◌, ◌-◌, ◌^◌, ◌<◌, ◌≤◌, Bool, true, false, List, [], ◌∷◌, ◌++◌, length, map, Option, Some, None, IfSome, Result, IfOk, refl, sym, ap, ◌∙◌, arith, append_assoc, append-nil, length-append}
+use Rattle.std.proofs.Common.{◌≡◌, ℕ, zero, suc, ◌+◌, ◌-◌, ◌≤◌, Bool, true, false, List, [], ◌∷◌, ◌++◌, length, map, Option, Some, IfSome, refl, sym, ap, ◌∙◌, arith, append_assoc, append-nil, length-append}
 use Rattle.std.specs.List.{AllByRecursion}
 use Rattle.lldb_base.specs.Contents.{Contents, content_of}
 use Rattle.lldb_base.specs.Heaps.{MayBeDead}
@@ -7,10 +7,10 @@ use Rattle.lldb_btree.specs.declared.node.Child.{Child}
 use Rattle.lldb_btree.specs.declared.node.Pair.{Pair}
 use Rattle.lldb_btree.specs.Changes.{Becomes, CanStore, IsStored}
 use Rattle.lldb_btree.specs.Footprints.{times, Edits}
-use Rattle.lldb_btree.specs.Nodes.{count, spelling, body, child_entry, is_leaf, entries, FitsChild}
+use Rattle.lldb_btree.specs.Nodes.{count, spelling, body, child_entry, is_leaf, entries}
 use Rattle.lldb_btree.specs.Pairs.{FitsPair}
 use Rattle.lldb_btree.specs.Reading.{mark}
-use Rattle.lldb_btree.specs.Removal.{IsLoose, CanMend, CanMendWith, CanPut, IsPut, IsBeside, either_way}
+use Rattle.lldb_btree.specs.Removal.{IsLoose, CanMendWith, CanPut, IsPut, IsBeside, either_way}
 use Rattle.lldb_btree.specs.Trees.{Part, child_of, pairs_of, footprint_of, IsNode, IsOver}
 use Rattle.lldb_btree.proofs.Edited.{Live, times_append, edits_in, edit_stays}
 use Rattle.lldb_btree.proofs.Lengths.{entries_count, spelled_by}

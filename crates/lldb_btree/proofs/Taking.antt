@@ -1,5 +1,5 @@
 -- One level of a removal, by what was read of its node.
-use Rattle.std.proofs.Common.{◌≡◌, ℕ, zero, suc, ◌+◌, ◌-◌, ◌*◌, ◌<◌, ◌≤◌, Bool, true, false, List, [], ◌∷◌, ◌++◌, length, map, Option, Some, None, Result, Ok, Err, IfOk, refl, sym, ap, ◌∙◌, arith, length-append, append-nil}
+use Rattle.std.proofs.Common.{◌≡◌, ℕ, zero, suc, ◌+◌, ◌-◌, ◌*◌, ◌≤◌, Bool, true, false, List, [], ◌∷◌, ◌++◌, length, map, Option, Some, None, Result, IfOk, refl, sym, ap, ◌∙◌, arith, length-append, append-nil}
 use Rattle.std.specs.List.{AllByRecursion}
 use Rattle.lldb_base.specs.Contents.{Contents, content_of}
 use Rattle.lldb_base.specs.declared.trouble.Trouble.{Trouble}
@@ -12,12 +12,12 @@ use Rattle.lldb_btree.specs.Nodes.{count, body, spelling, pair_entry}
 use Rattle.lldb_btree.specs.Pairs.{FitsPair, find, delete}
 use Rattle.lldb_btree.specs.Removal.{Has, CanTake, IsReduced, IsTaken, IsTakenHere, CanPut, IsPut}
 use Rattle.lldb_btree.specs.Splicing.{AddsNodes}
-use Rattle.lldb_btree.specs.Trees.{Part, child_of, pairs_of, footprint_of, IsNode, IsOver, least_of}
+use Rattle.lldb_btree.specs.Trees.{Part, child_of, footprint_of, IsNode, IsOver, least_of}
 use Rattle.lldb_btree.proofs.Below.{NoEdit, HeadRead, WayRead, Under, as_leaf, as_inner, clash, edit_kept, way_under}
 use Rattle.lldb_btree.proofs.Deletes.{delete_fits, delete_count}
-use Rattle.lldb_btree.proofs.Edited.{edits_none, edits_then, times_append}
+use Rattle.lldb_btree.proofs.Edited.{edits_none, edits_then}
 use Rattle.lldb_btree.proofs.Mending.{if_ok_also}
-use Rattle.lldb_btree.proofs.Parents.{counts, parent}
+use Rattle.lldb_btree.proofs.Parents.{parent}
 use Rattle.lldb_btree.proofs.Putting.{amid, pairs_amid, times_amid, length_amid, footprints_amid, apart_moved, edits_amid}
 use Rattle.lldb_btree.proofs.Setting.{one_live}
 use Rattle.lldb_btree.proofs.Standing.{all_left, all_right, parts_count}

@@ -6,7 +6,7 @@ use Rattle.lldb_btree.specs.declared.node.Child.{Child}
 use Rattle.lldb_btree.specs.declared.node.Node.{Node}
 use Rattle.lldb_btree.specs.declared.node.Node.TheVariants.{Leaf, Inner}
 use Rattle.lldb_btree.specs.declared.node.Pair.{Pair}
-use Rattle.lldb_btree.specs.Changes.{Becomes, Lifts, CanEdit, IsStored}
+use Rattle.lldb_btree.specs.Changes.{Becomes, Lifts, CanEdit}
 use Rattle.lldb_btree.specs.Footprints.{times, Edits}
 use Rattle.lldb_btree.specs.Nodes.{spelling, body, count, child_entry}
 use Rattle.lldb_btree.specs.Pairs.{FitsPair, IsSorted, find, delete}

@@ -3,7 +3,7 @@ ghost use Rattle.std.specs.Prelude.{◌≡◌, ℕ, ◌+◌, ◌≤◌, true, Li
 ghost use Rattle.lldb_base.specs.Contents.{Contents};
 ghost use Rattle.lldb_base.specs.Trouble.{IsCausedTrouble, Refuses};
 ghost use Rattle.lldb_btree.specs.Frames.{KeepsLevels};
-ghost use Rattle.lldb_btree.specs.Nodes.{count, is_leaf, spelling, FitsChild};
+ghost use Rattle.lldb_btree.specs.Nodes.{spelling, FitsChild};
 ghost use Rattle.lldb_btree.specs.Removal.{CanLower, HoldsLess};
 ghost use Rattle.lldb_btree.specs.Splicing.{AddsNodes, IsFullFor};
 ghost use Rattle.lldb_btree.specs.declared.node.Child as child;

@@ -1,4 +1,4 @@
-use Rattle.std.proofs.Common.{◌-◌, [], arith}
+use Rattle.std.proofs.Common.{[], arith}
 use Rattle.lldb_btree.proofs.Neighbours.{last_of, last_fits, last_many, last_left, last_front}
 use Rattle.lldb_btree.proofs.mend.last_child.Goals as goal
 

@@ -1,7 +1,6 @@
-use Rattle.std.proofs.Common.{◌≤◌, ℕ, List, Option, arith}
+use Rattle.std.proofs.Common.{ℕ, List, Option, arith}
 use Rattle.lldb_base.specs.Contents.{Contents}
 use Rattle.lldb_btree.specs.declared.node.Pair.{Pair}
-use Rattle.lldb_btree.specs.Nodes.{count}
 use Rattle.lldb_btree.specs.Removal.{CanPut}
 use Rattle.lldb_btree.specs.Splicing.{IsFullFor}
 use Rattle.lldb_btree.proofs.Putting.{put_headless, put_count}

@@ -1,4 +1,4 @@
-use Rattle.std.proofs.Common.{◌≡◌, ◌+◌, ◌-◌, ◌≤◌, ℕ, Bool, List, Option, Some, refl, sym, arith}
+use Rattle.std.proofs.Common.{◌+◌, ◌-◌, ◌≤◌, ℕ, Bool, List, Option, refl, sym, arith}
 use Rattle.lldb_base.specs.Contents.{Contents}
 use Rattle.lldb_base.specs.Heaps.{MayBeDead}
 use Rattle.lldb_btree.specs.declared.node.Pair.{Pair}

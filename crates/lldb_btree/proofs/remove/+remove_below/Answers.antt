@@ -1,4 +1,4 @@
-use Rattle.std.proofs.Common.{◌+◌, ◌-◌, ◌*◌, ℕ, List, Option, Some, sym, ap, ◌∙◌, arith}
+use Rattle.std.proofs.Common.{◌-◌, ℕ, List, Option, Some, sym, ap, ◌∙◌, arith}
 use Rattle.lldb_btree.specs.Splicing.{IsFullFor}
 use Rattle.lldb_btree.proofs.Below.{WayRead, headless, wayless}
 use Rattle.lldb_btree.proofs.Full.{full_kept}

@@ -1,4 +1,4 @@
-use Rattle.std.proofs.Common.{◌-◌, true, map, sym, ◌∙◌, arith}
+use Rattle.std.proofs.Common.{true, map, sym, ◌∙◌, arith}
 use Rattle.lldb_btree.specs.declared.bound.Bound.TheVariants.{From}
 use Rattle.lldb_btree.specs.Bounds.{is_ahead}
 use Rattle.lldb_btree.specs.Nodes.{pair_entry}

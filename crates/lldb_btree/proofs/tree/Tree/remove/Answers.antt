@@ -1,4 +1,4 @@
-use Rattle.std.proofs.Common.{◌+◌, ◌*◌, ℕ, Bool, List, Option, Some, sym, ap, ◌∙◌, arith}
+use Rattle.std.proofs.Common.{ℕ, Bool, List, Option, Some, sym, ap, ◌∙◌, arith}
 use Rattle.lldb_btree.specs.Splicing.{IsFullFor}
 use Rattle.lldb_btree.specs.Trees.{MayBeNoTree}
 use Rattle.lldb_btree.proofs.Full.{full_kept}
