@@ -2,7 +2,7 @@
 ghost use Rattle.std.specs.Prelude.{◌≡◌, ◌≤◌, length, IsTrue, IfOk};
 
 use lldb_base::{Heap, MemHeap, Trouble};
-use lldb_btree::{Cursor, Tree};
+use lldb_btree::{Cursor, Node, Tree, read_node};
 use ql_edge::{Bytes, NoMemory};
 use std::alloc::Global;
 
@@ -78,6 +78,67 @@ impl Plot {
             return Err(Trouble::Failed);
         }
         self.tree.set(self.alloc, &mut self.heap, key, value)
+    }
+
+    /// Whether a pair with a key was there and is removed.
+    pub fn remove(&mut self, key: &[u8]) -> Result<bool, Trouble> {
+        if !self.heap.ready() {
+            return Err(Trouble::Failed);
+        }
+        if self.heap.depth() == 0 {
+            return Err(Trouble::Failed);
+        }
+        self.tree.remove(self.alloc, &mut self.heap, key)
+    }
+
+    /// Destroys the tree, and answers whether the heap is empty then.
+    pub fn destroy(&mut self) -> Result<bool, Trouble> {
+        if !self.heap.ready() {
+            return Err(Trouble::Failed);
+        }
+        if self.heap.depth() == 0 {
+            return Err(Trouble::Failed);
+        }
+        self.tree.destroy(self.alloc, &mut self.heap)?;
+        Ok(self.heap.is_empty())
+    }
+
+    /// The node at a handle.
+    pub fn node(&mut self, handle: u64) -> Result<Node, Trouble> {
+        if !self.heap.ready() {
+            return Err(Trouble::Failed);
+        }
+        let mut content = Bytes::new(self.alloc);
+        self.heap.read(handle, &mut content)?;
+        match read_node(self.alloc, content.as_slice()) {
+            Ok(node) => Ok(node),
+            Err(_) => Err(Trouble::Damaged),
+        }
+    }
+
+    /// Whether each node under a handle has at least so many pairs or children, those below it 16 each, and stands so many levels
+    /// above the leaves.
+    pub fn is_full(&mut self, handle: u64, least: usize, above: u32) -> Result<bool, Trouble> {
+        let children = match self.node(handle)? {
+            Node::Leaf(pairs) => return Ok(above == 0 && pairs.len() >= least),
+            Node::Inner(children) => children,
+        };
+        if above == 0 || children.len() < least {
+            return Ok(false);
+        }
+        for child in children.as_slice() {
+            if !self.is_full(child.handle, 16, above - 1)? {
+                return Ok(false);
+            }
+        }
+        Ok(true)
+    }
+
+    /// Whether all nodes of the tree have entries enough, and all leaves stand at one level.
+    pub fn is_well(&mut self) -> Result<bool, Trouble> {
+        let levels = self.depth()?;
+        let least = if levels > 1 { 2 } else { 0 };
+        self.is_full(self.tree.handle, least, levels.saturating_sub(1))
     }
 
     /// What the tree has at a key.
