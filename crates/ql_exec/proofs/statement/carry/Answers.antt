@@ -80,8 +80,23 @@ insert_selected-requires-clause-level g c =
 
 pub insert_selected-requires-clause-table : goal.insert_selected-requires-clause-table
 insert_selected-requires-clause-table g c =
-    (selecting_planned (g.R.Rel.schema c.args.rel.now) c.args.statement.now c.in-Insert.table c.in-Insert.columns c.in-Insert.source c.get-in-Insert.result.now c.in-Query-in-Insert.select c.get-in-Query.result.now c.args.plan.now
-    c.in-Insert.is c.get-in-Insert.ensures c.in-Query-in-Insert.is c.get-in-Query.ensures c.requires.plan).there
+    (selecting_planned (g.R.Rel.schema c.args.rel.now) c.args.statement.now c.in-Insert.table c.in-Insert.columns c.in-Insert.source c.get-in-Insert.result.now c.in-Query-get.select c.get-in-Query-get.result.now c.args.plan.now
+    c.in-Insert.is c.get-in-Insert.ensures c.in-Query-get.is c.get-in-Query-get.ensures c.requires.plan).there
+
+pub insert_selected-requires-clause-sets : goal.insert_selected-requires-clause-sets
+insert_selected-requires-clause-sets g c =
+    (selecting_planned (g.R.Rel.schema c.args.rel.now) c.args.statement.now c.in-Insert.table c.in-Insert.columns c.in-Insert.source c.get-in-Insert.result.now c.in-Query-get.select c.get-in-Query-get.result.now c.args.plan.now
+    c.in-Insert.is c.get-in-Insert.ensures c.in-Query-get.is c.get-in-Query-get.ensures c.requires.plan).sets
+
+pub insert_selected-requires-clause-typed : goal.insert_selected-requires-clause-typed
+insert_selected-requires-clause-typed g c =
+    (selecting_planned (g.R.Rel.schema c.args.rel.now) c.args.statement.now c.in-Insert.table c.in-Insert.columns c.in-Insert.source c.get-in-Insert.result.now c.in-Query-get.select c.get-in-Query-get.result.now c.args.plan.now
+    c.in-Insert.is c.get-in-Insert.ensures c.in-Query-get.is c.get-in-Query-get.ensures c.requires.plan).typed
+
+pub returns-in-Query-get-clause-done : goal.returns-in-Query-get-clause-done
+returns-in-Query-get-clause-done g c =
+    selecting_does c.args.with_names c.args.statement.now c.in-Insert.table c.in-Insert.columns c.in-Insert.source c.get-in-Insert.result.now c.in-Query-get.select c.get-in-Query-get.result.now c.args.plan.now _ _ _ _
+    c.in-Insert.is c.get-in-Insert.ensures c.in-Query-get.is c.get-in-Query-get.ensures c.insert_selected.ensures.done
 
 pub drop_table-requires-clause-level : goal.drop_table-requires-clause-level
 drop_table-requires-clause-level g c = drop_level c.args.statement.now c.in-DropTable.quiet c.in-DropTable.table (length (g.R.Rel.saved c.args.rel.now)) c.in-DropTable.is c.requires.level
@@ -123,5 +138,5 @@ returns-in-Truncate-clause-done g c =
 
 pub returns-in_default-clause-done : goal.returns-in_default-clause-done
 returns-in_default-clause-done g c =
-    others_do (Unit {0}) c.args.with_names c.args.statement.now c.args.plan.now c.refusal-in_default.result _ _ _ _ c.refusal-in_default.ensures
+    others_do (Unit {0}) c.args.with_names c.args.statement.now c.args.plan.now c.refusal.result _ _ _ _ c.refusal.ensures
     (is_other c.args.statement.now c.in_default.not-Query c.in_default.not-CreateTable c.in_default.not-DropTable c.in_default.not-AddColumn c.in_default.not-DropColumn c.in_default.not-Insert c.in_default.not-Update c.in_default.not-Delete c.in_default.not-Truncate)
