@@ -56,6 +56,7 @@ fn stop_of(done: Result<(), StepFault>) -> Stop {
 }
 
 /// The statements of the session.
+#[derive(Drop)]
 struct Texts {
     begin: Statement,
     create: Statement,
@@ -169,7 +170,7 @@ const LEFT: [Left; 7] = [
 
 #[test]
 fn ends_at_each_call(rt: HostRuntime) -> Result<(), Fail> {
-    let texts = expect(&rt, read_all(rt.alloc()));
+    let texts = read_all(rt.alloc()).expect(&rt, "statements are read");
     let mut fails = 0;
     for want in &LEFT {
         fails += 1;
