@@ -1,5 +1,5 @@
 -- The contents that an allocator holds.
-use Rattle.std.proofs.Common.{◌≡◌, ℕ, suc, ◌+◌, ◌*◌, ◌<◌, ◌≤◌, ◌^◌, Bool, true, false, List, [], ◌∷◌, ◌++◌, length, map, drop, Option, Some, None, IfSome, All, refl, sym, ◌∙◌, ap, subst, inl, inr, arith, leb, le-leb}
+use Rattle.std.proofs.Common.{◌≡◌, ℕ, suc, ◌+◌, ◌<◌, ◌≤◌, ◌^◌, Bool, true, false, List, [], ◌∷◌, length, map, drop, Option, Some, None, IfSome, All, refl, sym, ◌∙◌, ap, subst, inl, inr, arith, leb, le-leb}
 use Rattle.std.specs.Prelude.{not, IsTrue, ◌↔◌}
 use Rattle.std.proofs.lemmas.Bool.{cases_lt, lt-leb, false≢true}
 use Rattle.std.proofs.lemmas.List.{length-map}
@@ -8,13 +8,12 @@ use Rattle.ql_edge.specs.Stops.{Leaves, Adds, IsSameBut}
 use Rattle.ql_edge.specs.Told.{Told}
 use Rattle.lldb_base.specs.Stops.{IsEnded, Seen, kept_of, seen_adds}
 use Rattle.lldb_base.specs.Contents.{Contents, content_of, with_content, without, IsEntry, AreContents}
-use Rattle.lldb_base.specs.Heaps.{MayBeDead, IsGrown}
 use Rattle.lldb_atoms.specs.Blocks.{Extent, Used, Moved}
 use Rattle.lldb_atoms.specs.Rows.{atoms_in, extent_at, heap}
 use Rattle.lldb_atoms.specs.Sound.{heap_in}
 use Rattle.lldb_atoms.proofs.Rising.{handles_rise}
 use Rattle.lldb_blocks.specs.Maps.{Rising}
-use Rattle.lldb_blocks.specs.Laid.{Solid, Lays, AtRest}
+use Rattle.lldb_blocks.specs.Laid.{Solid, Lays}
 use Rattle.lldb_blocks.proofs.Looks.{atoms_append, found}
 use Rattle.lldb_blocks.proofs.Lays.{lays_length}
 use Rattle.lldb_blocks.proofs.Heaps.{Rising_heap}

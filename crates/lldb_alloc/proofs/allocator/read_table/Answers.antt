@@ -1,4 +1,4 @@
-use Rattle.std.proofs.Common.{◌≡◌, ℕ, ◌≤◌, List, Option, None, Result, IfSome, arith}
+use Rattle.std.proofs.Common.{◌≡◌, ℕ, List, Option, None, Result, IfSome, arith}
 use Rattle.lldb_base.specs.declared.trouble.Trouble.{Trouble}
 use Rattle.lldb_base.specs.Trouble.{Refuses}
 use Rattle.lldb_alloc.specs.Changes.{LacksRow}

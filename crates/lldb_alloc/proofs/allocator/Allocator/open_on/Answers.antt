@@ -1,4 +1,4 @@
-use Rattle.std.proofs.Common.{◌≡◌, ℕ, ◌≤◌, ◌^◌, Bool, true, false, refl, ◌∙◌, arith}
+use Rattle.std.proofs.Common.{◌≡◌, ◌≤◌, ◌^◌, true, false, refl, ◌∙◌, arith}
 use Rattle.lldb_alloc.proofs.Held.{contents_meant, sizes_none}
 use Rattle.lldb_alloc.proofs.allocator.Allocator.open_on.Goals as goal
 

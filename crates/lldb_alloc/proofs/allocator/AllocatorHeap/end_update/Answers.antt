@@ -1,4 +1,4 @@
-use Rattle.std.proofs.Common.{◌≡◌, ℕ, Bool, true, List, Option, sym, ◌∙◌}
+use Rattle.std.proofs.Common.{◌≡◌, sym, ◌∙◌}
 use Rattle.lldb_alloc.specs.Meant.{ready_sound, meant_same}
 use Rattle.lldb_alloc.proofs.Held.{ended_meant, adds_meant, more_levels}
 use Rattle.lldb_alloc.proofs.allocator.AllocatorHeap.end_update.Goals as goal

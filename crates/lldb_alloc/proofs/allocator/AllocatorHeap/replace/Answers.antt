@@ -1,4 +1,4 @@
-use Rattle.std.proofs.Common.{◌≡◌, ℕ, ◌≤◌, ◌^◌, Bool, true, false, List, All, refl, sym, ◌∙◌, subst, arith}
+use Rattle.std.proofs.Common.{◌≡◌, ℕ, ◌≤◌, ◌^◌, true, false, List, All, refl, sym, ◌∙◌, subst, arith}
 use Rattle.lldb_alloc.specs.Meant.{ready_sound}
 use Rattle.lldb_alloc.proofs.Held.{contents_meant, meant_stops}
 use Rattle.lldb_alloc.proofs.allocator.AllocatorHeap.replace.Goals as goal

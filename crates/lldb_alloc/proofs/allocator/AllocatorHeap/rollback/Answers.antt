@@ -1,4 +1,4 @@
-use Rattle.std.proofs.Common.{◌≡◌, ℕ, ◌≤◌, ◌^◌, Bool, true, false, arith}
+use Rattle.std.proofs.Common.{◌≡◌, ◌≤◌, ◌^◌, true, false, arith}
 use Rattle.lldb_alloc.proofs.Held.{contents_meant, sizes_front, sizes_back, not_false}
 use Rattle.std.specs.Prelude.{not}
 use Rattle.lldb_alloc.proofs.allocator.AllocatorHeap.rollback.Goals as goal
