@@ -201,3 +201,7 @@ not_false false sound is off = absurd (cc)
 
 pub more_levels : (sound : Bool) (saved : List (Option (List ℕ))) → 1 < length (map (meant sound) saved) → 1 < length saved
 more_levels sound saved more = let same = length-map saved (meant sound) in omega (arith, same, more)
+
+pub none_saved : (sound : Bool) (saved : List (Option (List ℕ))) → map (meant sound) saved ≡ [] → saved ≡ []
+none_saved sound [] none = refl
+none_saved sound (s ∷ saved) none = absurd (cc)

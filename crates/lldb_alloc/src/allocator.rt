@@ -1,5 +1,5 @@
 //! A heap over a filer.
-ghost use Rattle.std.specs.Prelude.{◌≡◌, ℕ, ◌+◌, ◌*◌, ◌^◌, ◌≤◌, ◌⊎◌, Bool, not, true, false, IsTrue, List, [], length, map, All, Option, Some, None, IfOk, IfErr, IfSome, refl};
+ghost use Rattle.std.specs.Prelude.{◌≡◌, ℕ, ◌^◌, ◌≤◌, ◌⊎◌, not, true, false, IsTrue, List, [], length, map, All, Option, Some, None, IfOk, IfErr, IfSome, refl};
 ghost use Rattle.std.proofs.Common.{◌∙◌, ap};
 ghost use Rattle.ql_edge.specs.Stops.{IsSameBut};
 ghost use Rattle.lldb_base.specs.Contents.{AreContents};
@@ -115,9 +115,11 @@ impl<F: Filer> Allocator<F> {
     }
 
     /// The filer below.
+    #[tactic(auto, using(crate::proofs::Held::none_saved))]
     pub fn into_below(self) -> F
         requires { (⟦<Allocator<F> as Heap>⟧.saved self ≡ []) ⊎ (⟦<Allocator<F> as Heap>⟧.is_sound self ≡ false) }
         ensures map { ⟦<Allocator<F> as Heap>⟧.map_of self ≡ meant (F.is_sound result) (F.content result) }
+        ensures saved { ⟦<Allocator<F> as Heap>⟧.saved self ≡ [] → F.saved result ≡ [] }
         ensures size { F.size_of result ≡ ⟦<Allocator<F> as Heap>⟧.size_of self }
         ensures limit { ⟦<Allocator<F> as Heap>⟧.limit_of self ≡ Some (F.limit_of result) }
         ensures sound { F.is_sound result ≡ ⟦<Allocator<F> as Heap>⟧.is_sound self }
