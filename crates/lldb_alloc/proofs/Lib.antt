@@ -17,3 +17,4 @@ pub mod Sites
 pub mod Removed
 pub mod Placed
 pub mod Replaced
+pub mod Held

@@ -6,3 +6,4 @@ pub mod Room
 pub mod Releases
 pub mod Handles
 pub mod Places
+pub mod Meant

@@ -1,6 +1,7 @@
 //! Contents by handle in blocks of a content, over any filer.
 #![tactic(auto, using(crate::proofs::Stays::stops_none, crate::proofs::Stays::stops_then))]
 
+mod allocator;
 mod bytes;
 mod chain;
 mod content;
@@ -14,6 +15,7 @@ mod room;
 mod site;
 mod write;
 
+pub use allocator::Allocator;
 pub use content::read_content;
 pub use create::create_content;
 pub use remove::remove_content;

@@ -1,5 +1,5 @@
 //! A content is removed by its handle.
-ghost use Rattle.std.specs.Prelude.{◌≡◌, ◌+◌, ◌*◌, ◌^◌, ◌≤◌, IsTrue, length, OnOk, IfSome};
+ghost use Rattle.std.specs.Prelude.{◌^◌, ◌≤◌, IsTrue, length, OnOk, IfSome};
 ghost use Rattle.lldb_base.specs.Heaps.{MayBeDead};
 ghost use Rattle.lldb_base.specs.Trouble.{IsCausedTrouble, Refuses};
 ghost use Rattle.lldb_alloc.specs.Frames.{KeepsLevels, KeepsStops};

@@ -1,5 +1,5 @@
 //! A content is replaced by its handle: in its place where it fits, else by one elsewhere.
-ghost use Rattle.std.specs.Prelude.{◌≡◌, ⊤, ◌+◌, ◌-◌, ◌*◌, ◌^◌, ◌<◌, ◌≤◌, max, IsTrue, length, Some, OnOk, IfSome};
+ghost use Rattle.std.specs.Prelude.{◌≡◌, ◌+◌, ◌*◌, ◌^◌, ◌<◌, ◌≤◌, max, IsTrue, length, Some, OnOk, IfSome};
 ghost use Rattle.lldb_base.specs.Contents.{atoms_for};
 ghost use Rattle.lldb_base.specs.Heaps.{MayBeDead, IsGrown, IsFull};
 ghost use Rattle.lldb_base.specs.Trouble.{IsCausedTrouble, Refuses};
