@@ -118,7 +118,7 @@ placed_from front (at ∷ targets) (x ∷ new) (d ∷ columns) n e c l m =
     let both = two_parts (at == n) (counts_from (suc n) targets) c in
     let here : at ≡ length front = same_number at n both.0 ∙ e in
     let put : slice_set (front ++ v.Null ∷ nulls columns) at x ≡ (front ++ x ∷ []) ++ nulls columns =
-        ap (λ (k : ℕ). slice_set (front ++ v.Null ∷ nulls columns) k x) here ∙ set_behind front v.Null x (nulls columns) ∙ sym (append_assoc front (x ∷ []) (nulls columns)) in
+    ap (λ (k : ℕ). slice_set (front ++ v.Null ∷ nulls columns) k x) here ∙ set_behind front v.Null x (nulls columns) ∙ sym (append_assoc front (x ∷ []) (nulls columns)) in
     let long = length-append front (x ∷ []) in
     ap (with_new targets new) put ∙ placed_from (front ++ x ∷ []) targets new columns (suc n) (omega (arith, e, long)) both.1 (omega (arith, l)) (omega (arith, m)) ∙ append_assoc front (x ∷ []) new
 
