@@ -1,7 +1,6 @@
 -- Two neighbours that are stored together.
 use Rattle.std.proofs.Common.{◌≡◌, ℕ, ◌+◌, ◌<◌, ◌≤◌, Bool, List, [], ◌∷◌, ◌++◌, length, Option, IfSome, Result, Ok, Err, IfOk, sym, ◌∙◌, arith, length-append}
 use Rattle.lldb_base.specs.Contents.{Contents, content_of, AreContents}
-use Rattle.lldb_base.specs.Heaps.{MayBeDead}
 use Rattle.lldb_base.specs.declared.trouble.Trouble.{Trouble}
 use Rattle.lldb_btree.specs.declared.node.Pair.{Pair}
 use Rattle.lldb_btree.specs.declared.store.Stored.{Stored}
@@ -17,7 +16,7 @@ use Rattle.lldb_btree.proofs.Edited.{Live, times_append, times_self, edits_then,
 use Rattle.lldb_btree.proofs.Joins.{Join, over_join}
 use Rattle.lldb_btree.proofs.Lengths.{are_node, entries_count}
 use Rattle.lldb_btree.proofs.Moved.{Agree, over_live, over_moved}
-use Rattle.lldb_btree.proofs.Rooted.{handle_live, node_back, not_dead}
+use Rattle.lldb_btree.proofs.Rooted.{handle_live, node_back}
 use Rattle.lldb_btree.proofs.Standing.{all_both, over_fits}
 
 -- two nodes were put together as bytes
@@ -42,9 +41,6 @@ mend_few told m d left right first second ps qs us ts c = omega (arith, entries_
 pub mend_unread : (told : Option Contents) (m : Contents) (d left right : ℕ) (first second : List ℕ) (ps qs : List Pair) (us ts : List ℕ) → CanMend told m d left right first second ps qs us ts → ((leaf : Bool) (es fs : List Entry) → AreNode leaf es first → AreNode leaf fs second → length es + length fs ≤ 64 → ⊥) → ⊥
 mend_unread told m d left right first second ps qs us ts c none =
     none (is_leaf c.one.node) (entries c.one.node) (entries c.two.node) (loose_node m d left first ps us c.one) (second_node told m d left right first second ps qs us ts c) (mend_few told m d left right first second ps qs us ts c)
-
-pub mend_dead : (told : Option Contents) (m : Contents) (d left right : ℕ) (first second : List ℕ) (ps qs : List Pair) (us ts : List ℕ) → CanMend told m d left right first second ps qs us ts → MayBeDead right told → ⊥
-mend_dead told m d left right first second ps qs us ts c dead = not_dead told right c.two.live.0 m c.is c.two.live.1 dead
 
 -- the right handle was removed
 record Gone (told mid : Option Contents) (m : Contents) (d left right : ℕ) (all : List ℕ) (ps qs : List Pair) (us ts : List ℕ) : Type 0 where

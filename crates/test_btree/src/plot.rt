@@ -3,7 +3,7 @@ ghost use Rattle.std.specs.Prelude.{◌≡◌, ◌≤◌, length, IsTrue, IfOk};
 
 use lldb_base::{Heap, MemHeap, Trouble};
 use lldb_btree::{Cursor, Node, Tree, read_node};
-use ql_edge::{Bytes, NoMemory};
+use ql_edge::{Bytes, Items, NoMemory};
 use std::alloc::Global;
 
 /// A heap with a level begun.
@@ -116,29 +116,42 @@ impl Plot {
         }
     }
 
-    /// Whether each node under a handle has at least so many pairs or children, those below it 16 each, and stands so many levels
-    /// above the leaves.
-    pub fn is_full(&mut self, handle: u64, least: usize, above: u32) -> Result<bool, Trouble> {
+    /// Whether a node has at least so many pairs or children, and is a leaf exactly where it is to be one. The handles of its
+    /// children are added to `below`.
+    fn is_full(
+        &mut self,
+        handle: u64,
+        least: usize,
+        is_leaf: bool,
+        below: &mut Items<u64>,
+    ) -> Result<bool, Trouble> {
         let children = match self.node(handle)? {
-            Node::Leaf(pairs) => return Ok(above == 0 && pairs.len() >= least),
+            Node::Leaf(pairs) => return Ok(is_leaf && pairs.len() >= least),
             Node::Inner(children) => children,
         };
-        if above == 0 || children.len() < least {
-            return Ok(false);
-        }
         for child in children.as_slice() {
-            if !self.is_full(child.handle, 16, above - 1)? {
-                return Ok(false);
-            }
+            below.push(child.handle)?;
         }
-        Ok(true)
+        Ok(!is_leaf && children.len() >= least)
     }
 
-    /// Whether all nodes of the tree have entries enough, and all leaves stand at one level.
+    /// Whether all nodes of the tree have entries enough, and its leaves stand at one level.
     pub fn is_well(&mut self) -> Result<bool, Trouble> {
         let levels = self.depth()?;
-        let least = if levels > 1 { 2 } else { 0 };
-        self.is_full(self.tree.handle, least, levels.saturating_sub(1))
+        let mut least = if levels > 1 { 2 } else { 0 };
+        let mut handles = Items::new(self.alloc);
+        handles.push(self.tree.handle)?;
+        for level in 1..levels.saturating_add(1) {
+            let mut below = Items::new(self.alloc);
+            for handle in handles.as_slice() {
+                if !self.is_full(*handle, least, level == levels, &mut below)? {
+                    return Ok(false);
+                }
+            }
+            handles = below;
+            least = 16;
+        }
+        Ok(true)
     }
 
     /// What the tree has at a key.

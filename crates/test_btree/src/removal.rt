@@ -27,7 +27,7 @@ impl Order {
         let half = turn / 2;
         match self {
             Order::Rising => turn,
-            Order::Falling => count.saturating_sub(turn + 1),
+            Order::Falling => count.saturating_sub(turn.saturating_add(1)),
             Order::MiddleOut => {
                 let middle = count / 2;
                 if turn % 2 == 0 {
@@ -127,6 +127,14 @@ fn filled(alloc: Global, count: u32) -> Result<Plot, Trouble> {
     Ok(plot)
 }
 
+/// Whether a number is above the one before it.
+fn is_above(number: u32, last: Option<u32>) -> bool {
+    match last {
+        Some(last) => last < number,
+        None => true,
+    }
+}
+
 /// How many pairs of so many are there, each with its value and in order.
 fn counted(plot: &mut Plot, count: u32) -> Result<u32, Trouble> {
     let mut cursor = plot.tree.cursor();
@@ -139,7 +147,7 @@ fn counted(plot: &mut Plot, count: u32) -> Result<u32, Trouble> {
             return Err(Trouble::Damaged);
         };
         let number = u32::from_be_bytes(*key);
-        if pair.value.as_slice() != pair.key.as_slice() || last.is_some_and(|last| number <= last) {
+        if pair.value.as_slice() != pair.key.as_slice() || !is_above(number, last) {
             return Err(Trouble::Damaged);
         }
         last = Some(number);
@@ -160,7 +168,7 @@ fn emptied(plot: &mut Plot, case: &Case) -> Result<Option<u32>, Trouble> {
         if !is_removed(plot, number)? {
             return Ok(Some(turn));
         }
-        let left = case.count.saturating_sub(turn + 1);
+        let left = case.count.saturating_sub(turn.saturating_add(1));
         if (left < 40 || turn % 100 == 0)
             && !(plot.is_well()? && counted(plot, case.count)? == left)
         {
