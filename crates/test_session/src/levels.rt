@@ -102,6 +102,7 @@ fn play(session: &mut Session<Failing>, texts: &Texts) -> Result<(), StepFault>
 /// What a session leaves where its call of a number fails: where it stopped, what was shown, and how many tables there are.
 #[derive(Clone, Copy)]
 struct Left {
+    fails: u64,
     stop: Stop,
     shown: &'static [u8],
     tables: usize,
@@ -114,13 +115,13 @@ fn compare(rt: &impl Abort, stop: Stop, rel: &Failing, want: &Left) {
     assert_eq!(rt; rel.schema().tables.len(), want.tables);
 }
 
-fn leaves(rt: &(impl Abort + Alloc<A = Global>), texts: &Texts, fails: u64, want: &Left)
+fn leaves(rt: &(impl Abort + Alloc<A = Global>), texts: &Texts, want: &Left)
     requires begin { IsReadBack texts.now.begin }
     requires create { IsReadBack texts.now.create }
     requires show { IsReadBack texts.now.show }
     requires commit { IsReadBack texts.now.commit }
 {
-    let rel = Failing::new(rt.alloc(), fails);
+    let rel = Failing::new(rt.alloc(), want.fails);
     let mut session = Session::new(rt.alloc(), rel, true, true, false);
     let stop = stop_of(play(&mut session, texts));
     let rel = session.into_rel();
@@ -132,36 +133,43 @@ const WHOLE: &[u8] = b"7\nCOMMIT 1\n";
 /// The calls in turn: begin, a new table, the text, the end of the level, its line, begin again. Then the second table is refused.
 const LEFT: [Left; 7] = [
     Left {
+        fails: 1,
         stop: Stop::Trouble,
         shown: b"",
         tables: 0,
     },
     Left {
+        fails: 2,
         stop: Stop::Trouble,
         shown: b"",
         tables: 0,
     },
     Left {
+        fails: 3,
         stop: Stop::Trouble,
         shown: b"",
         tables: 0,
     },
     Left {
+        fails: 4,
         stop: Stop::Trouble,
         shown: b"7\n",
         tables: 0,
     },
     Left {
+        fails: 5,
         stop: Stop::Trouble,
         shown: b"7\n",
         tables: 1,
     },
     Left {
+        fails: 6,
         stop: Stop::Trouble,
         shown: WHOLE,
         tables: 1,
     },
     Left {
+        fails: 7,
         stop: Stop::Refused(4),
         shown: WHOLE,
         tables: 1,
@@ -171,10 +179,8 @@ const LEFT: [Left; 7] = [
 #[test]
 fn ends_at_each_call(rt: HostRuntime) -> Result<(), Fail> {
     let texts = read_all(rt.alloc()).expect(&rt, "statements are read");
-    let mut fails = 0;
     for want in &LEFT {
-        fails += 1;
-        leaves(&rt, &texts, fails, want);
+        leaves(&rt, &texts, want);
     }
     Ok(())
 }
