@@ -22,6 +22,7 @@ PARTS = [  # the seconds that a million pairs may take, and whether the keys com
     ("set in random order", 8.0, True),
     ("got in random order", 3.0, True),
     ("passed by a cursor", 3.0, False),
+    ("removed in random order", 8.0, True),
 ]
 
 
@@ -35,7 +36,7 @@ def measured(count):
 def main():
     few, low, _ = measured(MILLION // 10)
     many, high, peak = measured(MILLION)
-    failed = few[2:] != [MILLION // 10] * 3 or many[2:] != [MILLION] * 3
+    failed = few[2:] != [MILLION // 10] * 4 or many[2:] != [MILLION] * 4
     far = max(1.0, high[-1] / (10 * low[-1]))
     print(f"{'a million pairs':24} {'seconds':>8} {'limit':>6} {'a tenth':>8} {'growth':>7} {'limit':>6} {'levels':>9}")
     for place, (name, limit, is_random) in enumerate(PARTS):

@@ -1,9 +1,10 @@
-"""What statements do to tables, a second time: CREATE TABLE, ALTER TABLE, INSERT of rows, UPDATE, DELETE, TRUNCATE and DROP
-TABLE over columns of int64, and SELECT of fields over one table.
+"""What statements do to tables, a second time: CREATE TABLE, ALTER TABLE, INSERT of rows and of a SELECT, UPDATE, DELETE,
+TRUNCATE and DROP TABLE over columns of int64, SELECT of fields over one table, and levels of transactions.
 
 An expression is a pair: its text, and a function of a row (a dict of names, with "id()") that gives its value, None for NULL,
 or raises `Refused`. It is written from docs/LANGUAGE.md and not from the program.
 """
+import copy
 import random
 
 from values.reference import COMPARED, EXACT, wrapped
@@ -93,20 +94,44 @@ class Tables:
         elif not quiet:
             raise Refused(f"4 Exists {name}")
 
-    def insert(self, name, named, rows):
-        """Rows for the columns that are named, or for all: every value is known before a row goes in."""
-        columns, held = self.table(name)
+    def targets(self, name, named):
+        """The columns that are named, or all."""
+        columns, _ = self.table(name)
         for at, column in enumerate(named):
             if column not in columns:
                 raise Refused(f"2 NoColumn {column}")
             if column in named[:at]:
                 raise Refused(f"3 Ambiguous {column}")
-        targets = named or columns
-        if any(len(row) != len(targets) for row in rows):
-            raise Refused("6 Count")
-        for values in [dict(zip(targets, [part({}) for part in row])) for row in rows]:
+        return named or columns
+
+    def place(self, name, targets, rows):
+        """Rows of values go in, one after another."""
+        columns, held = self.table(name)
+        for row in rows:
+            values = dict(zip(targets, row))
             held[self.next_id] = [values.get(column) for column in columns]
             self.next_id += 1
+
+    def insert(self, name, named, rows):
+        """Rows for the columns that are named, or for all: every value is known before a row goes in."""
+        targets = self.targets(name, named)
+        if any(len(row) != len(targets) for row in rows):
+            raise Refused("6 Count")
+        self.place(name, targets, [[part({}) for part in row] for row in rows])
+
+    def insert_selected(self, name, named, other, fields, where, limit, offset):
+        """The rows that a SELECT over a table, or over none, shows: no fields are all columns."""
+        targets = self.targets(name, named)
+        columns, held = self.table(other) if other else ([], {0: []})
+        parts = fields or [lambda row, column=column: row[column] for column in columns]
+        if len(parts) != len(targets):
+            raise Refused("6 Count")
+        if any(count is not None and count < 0 for count in (limit, offset)):
+            raise Refused("22 NegativeCount")
+        rows = [dict(zip(columns, values)) | {"id()": id} for id, values in sorted(held.items())]
+        meant = [row for row in rows if where(row) is True]
+        shown = [[part(row) for part in parts] for row in meant]
+        self.place(name, targets, shown[offset or 0 :][:limit])
 
     def change(self, name, sets, where):
         """An UPDATE, or a DELETE where there are no sets: a row after the other, each judged by itself."""
@@ -156,19 +181,46 @@ class Tables:
 
 
 class Script:
-    """A random script, what it shows, and the line that it warns."""
+    """A random script, what it shows, and the line that it warns. A bare one has no level that opens by itself."""
 
     def __init__(self, seed):
         self.source = random.Random(seed)
         self.tables, self.texts, self.shown, self.warned = Tables(), [], [], ""
-        for count in range(1, self.source.randint(5, 30) + 1):
-            text, act = self.statement()
+        self.bare = self.source.random() < 0.3
+        self.saved = [] if self.bare else [copy.deepcopy(self.tables)]
+        self.base = len(self.saved)
+        count = self.source.randint(5, 30)
+        while len(self.texts) < count or len(self.saved) > self.base and self.source.random() < 0.95:
+            level = len(self.texts) >= count or self.source.random() < (0.1 if self.saved else 0.8)
+            text, act = self.level(len(self.texts) >= count) if level else self.statement()
             self.texts.append(text)
             try:
+                if not self.saved and not text.startswith(("SELECT", "BEGIN")):
+                    raise Refused("40 NoTransaction")
                 self.shown += act() or []
             except Refused as refusal:
-                self.warned = f"ql: statement {count}: {refusal}"
-                break
+                self.warned = f"ql: statement {len(self.texts)}: {refusal}"
+                return
+        if len(self.saved) > self.base:
+            self.warned = f"ql: statement {len(self.texts) + 1}: 42 Unbalanced"
+
+    def level(self, ends):
+        """A statement that opens a level or closes one; seldom one that closes a level which the script did not open."""
+        is_open = len(self.saved) > self.base
+        if not ends and self.source.random() < (0.4 if is_open else 0.99):
+            return "BEGIN TRANSACTION", self.begin
+        commits = self.source.random() < 0.5
+        return "COMMIT" if commits else "ROLLBACK", lambda: self.end(commits)
+
+    def begin(self):
+        self.saved.append(copy.deepcopy(self.tables))
+
+    def end(self, commits):
+        if len(self.saved) == self.base:
+            raise Refused("40 NoTransaction")
+        before = self.saved.pop()
+        if not commits:
+            self.tables = before
 
     def name(self):
         """A table that is there, or seldom another one."""
@@ -190,6 +242,27 @@ class Script:
         text, part = truth(self.source, [*columns, "id()"], 2)
         return f" WHERE {text}", part
 
+    def insert_selected(self, name, columns):
+        """INSERT of a SELECT: often from the table itself, seldom with a field too many."""
+        source, named = self.source, self.named(columns)
+        count = len(named or columns) + (source.random() < 0.02)
+        other = source.choice([name, name, self.name(), None])
+        seen = self.tables.tables[other][0] if other in self.tables.tables else []
+        star = other is not None and len(seen) == count and source.random() < 0.3
+        fields = [number(source, [*seen, "id()"] if other else [], 1) for _ in range(count)]
+        where, test = self.where(seen) if other else ("", lambda row: True)
+        limit, offset = [source.choice([None, None, None, 0, 1, 2, 3]) for _ in "lo"]
+        if source.random() < 0.01:
+            limit = -1
+        names = f" ({', '.join(named)})" if named else ""
+        text = f"INSERT INTO {name}{names} SELECT "
+        text += "*" if star else ", ".join(text for text, _ in fields)
+        text += f" FROM {other}{where}" if other else ""
+        text += f" LIMIT {limit}" if limit is not None else ""
+        text += f" OFFSET {offset}" if offset is not None else ""
+        parts = [] if star else [part for _, part in fields]
+        return text, lambda: self.tables.insert_selected(name, named, other, parts, test, limit, offset)
+
     def statement(self):
         source, tables = self.source, self.tables
         name = self.name()
@@ -202,6 +275,8 @@ class Script:
             made = ["a", "b", "c"][: source.randint(1, 3)]
             text = f"{'IF NOT EXISTS ' if quiet else ''}{name} ({', '.join(f'{c} int64' for c in made)})"
             return f"CREATE TABLE {text}", lambda: tables.create(name, made, quiet)
+        if choice < 0.12:
+            return self.insert_selected(name, columns)
         if choice < 0.4:
             named = self.named(columns)
             count = len(named or columns) + (source.random() < 0.01)

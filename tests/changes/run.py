@@ -21,11 +21,12 @@ def difference(program, seed):
     """What is wrong with a run of the script of a number, or nothing."""
     script = Script(seed)
     text = ";\n".join(script.texts)
-    done = subprocess.run([program], input=text.encode(), capture_output=True, timeout=SECONDS)
+    words = ["-bare"] if script.bare else []
+    done = subprocess.run([program, *words], input=text.encode(), capture_output=True, timeout=SECONDS)
     got = done.stdout.decode(), done.stderr.decode(), done.returncode
     lines = "".join(line + "\n" for line in script.shown)
     wanted = lines, script.warned + "\n" if script.warned else "", 1 if script.warned else 0
-    return None if got == wanted else f"script {seed}:\n{text}\ngives  {got}\nwanted {wanted}"
+    return None if got == wanted else f"script {seed} {words}:\n{text}\ngives  {got}\nwanted {wanted}"
 
 
 def main():

@@ -1,5 +1,5 @@
-//! Fills two trees with as many pairs as its word says, looks each key up, passes over all, and reads as many nodes at random,
-//! and says what it did. The microseconds that each took go to standard error.
+//! Fills two trees with as many pairs as its word says, looks each key up, passes over all, reads as many nodes at random and
+//! removes all keys, and says what it did. The microseconds that each took go to standard error.
 #![tactic(auto)]
 
 ghost use Rattle.std.specs.Prelude.{◌≡◌, ◌≤◌, length, true, IsTrue, IfOk, OnOk};
@@ -108,6 +108,36 @@ fn read<H: Heap>(alloc: Global, heap: &mut H, count: u64) -> Result<u64, Trouble
     Ok(read)
 }
 
+/// Between the numbers of two keys that are removed one after the other. It shares no factor with a power of ten.
+const STEP: u64 = 379_009;
+
+/// How many of so many keys in random order are removed.
+fn removed<H: Heap>(alloc: Global, heap: &mut H, tree: Tree, count: u64) -> Result<u64, Trouble>
+    requires ready { IsTrue (H.is_ready heap.old) }
+    requires depth { 1 ≤ length (H.saved heap.old) }
+{
+    let mut removed: u64 = 0;
+    for turn in 0..count {
+        let number = turn.wrapping_mul(STEP) % count;
+        let key = key_in(false, number);
+        if tree.remove(alloc, heap, &key)? {
+            removed = removed.saturating_add(1);
+        }
+    }
+    Ok(removed)
+}
+
+/// How many of so many keys are removed from a heap that may still be used, 0 where it may not.
+fn emptied(alloc: Global, heap: &mut MemHeap, tree: Tree, count: u64) -> u64 {
+    if !heap.ready() {
+        return 0;
+    }
+    if heap.depth() == 0 {
+        return 0;
+    }
+    removed(alloc, heap, tree, count).unwrap_or(0)
+}
+
 /// The number that the first word says.
 fn count_asked(rt: &HostRuntime) -> io::Result<u64> {
     let word = env::args(rt)?.skip(1).next();
@@ -148,6 +178,11 @@ fn main(rt: HostRuntime) -> io::Result<()> {
     let start = Instant::now(&rt)?;
     let read = read(alloc, &mut heap, count).unwrap_or(0);
     let reads = start.elapsed(&rt)?.as_micros();
-    println!(rt; "{of_rising} and {levels} levels, {found} found, {passed} passed, {read} read")?;
-    eprintln!(rt; "{rising} {random} {gets} {pass} {reads} us")
+    let start = Instant::now(&rt)?;
+    let removed = emptied(alloc, &mut heap, tree, count);
+    let removes = start.elapsed(&rt)?.as_micros();
+    println!(rt;
+        "{of_rising} and {levels} levels, {found} found, {passed} passed, {removed} removed, {read} read"
+    )?;
+    eprintln!(rt; "{rising} {random} {gets} {pass} {removes} {reads} us")
 }

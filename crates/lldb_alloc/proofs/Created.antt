@@ -1,29 +1,28 @@
 -- A content is added to a heap that is told.
-use Rattle.std.proofs.Common.{◌≡◌, ℕ, ◌+◌, ◌-◌, ◌*◌, ◌/◌, ◌<◌, ◌≤◌, List, [], ◌∷◌, ◌++◌, length, Option, Some, None, IfSome, refl, sym, ◌∙◌, ap, subst, inl, inr, arith, get_or, option_map}
-use Rattle.std.proofs.lemmas.Bool.{cases_eq, cases_lt}
+use Rattle.std.proofs.Common.{◌≡◌, ℕ, ◌*◌, ◌/◌, ◌<◌, ◌≤◌, List, [], ◌∷◌, length, Option, Some, None, IfSome, Result, Ok, Err, IfOk, refl, sym, ◌∙◌, ap, subst, inl, inr, arith, get_or, option_map}
+use Rattle.std.proofs.lemmas.Bool.{cases_lt}
 use Rattle.std.proofs.lemmas.List.{get_or-replicate, get_or_past, length-replicate}
 use Rattle.std.specs.Prelude.{replicate}
 use Rattle.std.specs.Option.{IsSomeAnd}
+use Rattle.lldb_base.specs.declared.trouble.Trouble.{Trouble}
 use Rattle.lldb_base.specs.Batch.{put}
-use Rattle.lldb_base.specs.Contents.{Contents, content_of, with_content, atoms_for}
-use Rattle.lldb_atoms.specs.Blocks.{Extent, Used, Free, Hole, Tile}
-use Rattle.lldb_atoms.specs.Rows.{atoms_in, extent_at, contains, targets, heap}
+use Rattle.lldb_base.specs.Contents.{Contents}
+use Rattle.lldb_atoms.specs.Blocks.{Extent, Free, Tile}
+use Rattle.lldb_atoms.specs.Rows.{heap}
 use Rattle.lldb_atoms.specs.Lists.{row_of}
 use Rattle.lldb_atoms.specs.Sound.{sound_tiling, heap_in, tiling}
-use Rattle.lldb_atoms.proofs.Says.{atoms_some}
-use Rattle.lldb_blocks.specs.Laid.{Solid, Lays, AtRest}
-use Rattle.lldb_blocks.proofs.Looks.{found, look_past}
-use Rattle.lldb_blocks.proofs.Heaps.{heap_at, meant}
-use Rattle.lldb_blocks.proofs.Lays.{lays_filled, lays_grown, lays_length}
+use Rattle.lldb_blocks.specs.Laid.{Lays, AtRest}
+use Rattle.lldb_blocks.proofs.Looks.{found}
+use Rattle.lldb_blocks.proofs.Lays.{lays_length}
 use Rattle.lldb_blocks.proofs.Bridges.{lays_heap, sound_lays}
 use Rattle.lldb_blocks.proofs.Places.{put_end}
 use Rattle.lldb_blocks.proofs.Readings.{lays_new, rest_new}
-use Rattle.lldb_blocks.proofs.Calls.{made_whole, made_part, made_last, empty_row}
-use Rattle.lldb_alloc.specs.Changes.{Turns, LacksRow, LacksPart, TakesPart, WritesUsed, NewTable, left_over}
+use Rattle.lldb_alloc.specs.Changes.{Turns, LacksRow, LacksPart, WritesUsed, NewTable}
 use Rattle.lldb_alloc.specs.Room.{FindsRoom, most_in, most_free_told}
 use Rattle.lldb_alloc.specs.Told.{heap_told, Creates}
-use Rattle.lldb_alloc.proofs.Parts.{left_none, left_some}
+use Rattle.lldb_alloc.specs.Places.{Placed, Places}
 use Rattle.lldb_alloc.proofs.ToldHeaps.{rested, no_contents}
+use Rattle.lldb_alloc.proofs.Placed.{grown}
 
 -- what is said of a heap that is told, by the row at rest that lies in its content
 pub by_row : (P : Option Contents → Type 0) (b : ℕ) (c : List ℕ) → P None → ((row : List Extent) → Lays (b ∷ c) row → AtRest row → P (Some (heap row))) → P (heap_in (b ∷ c))
@@ -62,32 +61,19 @@ part_unsound told size atoms at long table room lacks = unsound told size long t
     let f = found 8 row at (Free r.0) r.1 in
     told_fact (LacksPart at atoms) told c is lacks f.0 f.1 r.0 f.3 r.2 (subst (λ (z : List Extent). Lays c z) f.2 l))
 
--- nothing stands at a place
-unused : (row : List Extent) (q : ℕ) (o : Option Extent) → Solid row → extent_at 8 row q ≡ o → meant (contains (targets row)) (extent_at 8 row) q o ≡ None → content_of q (heap row) ≡ None
-unused row q o solid is none = heap_at row q solid ∙ ap (meant (contains (targets row)) (extent_at 8 row) q) is ∙ none
+-- a content that is placed is added
+placed_creates : (d : List ℕ) (row : List Extent) (at : ℕ) (u : List ℕ) → Placed d row at u → Creates at u (Some (heap row)) (heap_in d)
+placed_creates d row at u p = (p.fresh, p.first, lays_heap d p.now p.lays p.rest ∙ ap (λ (m : Contents). Some m) p.heap_is)
 
--- a content behind the last block
-grown : (c d : List ℕ) (row : List Extent) (at : ℕ) (u : List ℕ) → length c ≡ 16 * at → Lays c row → AtRest row → WritesUsed at u c d → (content_of at (heap row) ≡ None) × (heap row ≡ [] → at ≡ 8) × (heap_in d ≡ Some (with_content at u (heap row)))
-grown c d row at u long l rest w =
-    let all = lays_length c row l in
-    let place : at ≡ 8 + atoms_in row = omega (arith, all, long) in
-    let made = made_last row u l.spells.solid rest (atoms_some (length u)) in
-    let grows : Lays (put (length c) w.0 c) (row ++ Used u ∷ []) = lays_grown c row (Used u) w.0 refl (atoms_some (length u)) w.1 l in
-    let same : d ≡ put (length c) w.0 c = w.2 ∙ ap (λ (n : ℕ). put n w.0 c) (sym long) in
-    let lays : Lays d (row ++ Used u ∷ []) = subst (λ (z : List ℕ). Lays z (row ++ Used u ∷ [])) (sym same) grows in (
-      unused row at None l.spells.solid (ap (extent_at 8 row) place ∙ look_past 8 row (8 + atoms_in row) l.spells.solid (omega arith)) refl,
-      λ none. place ∙ ap (λ (r : List Extent). 8 + atoms_in r) (empty_row row l.spells.solid rest none),
-      lays_heap d (row ++ Used u ∷ []) lays made.0 ∙ ap (λ (m : Contents). Some m) made.1 ∙ ap (λ (q : ℕ). Some (with_content q u (heap row))) (sym place),
-    )
+pub created_placed : (told after : Option (List ℕ)) (at size : ℕ) (u : List ℕ) → IfSome told (λ c. length c ≡ size) → (size ≡ 0 → ⊥) → Turns told after (Places at u) → Creates at u (heap_told told) (heap_told after)
+created_placed None after at size u long some places = tt
+created_placed (Some []) after at size u long some places = absurd (some (sym long))
+created_placed (Some (b ∷ c)) None at size u long some places = absurd places
+created_placed (Some (b ∷ c)) (Some d) at size u long some places = by_row (λ o. Creates at u o (heap_in d)) b c tt (λ row l rest. placed_creates d row at u (places row l rest))
 
-creates_all : (at : ℕ) (u : List ℕ) (m : Contents) (d : List ℕ) → (content_of at m ≡ None) × (m ≡ [] → at ≡ 8) × (heap_in d ≡ Some (with_content at u m)) → Creates at u (Some m) (heap_told (Some d))
-creates_all at u m d all = all
-
-pub created_behind : (told after : Option (List ℕ)) (at size : ℕ) (u : List ℕ) → IfSome told (λ c. length c ≡ size) → 16 * at ≡ size → 128 ≤ size → Turns told after (WritesUsed at u) → Creates at u (heap_told told) (heap_told after)
-created_behind None after at size u long even table writes = tt
-created_behind (Some []) after at size u long even table writes = absurd (omega (arith, long, table))
-created_behind (Some (b ∷ c)) None at size u long even table writes = absurd writes
-created_behind (Some (b ∷ c)) (Some d) at size u long even table writes = by_row (λ o. Creates at u o (heap_in d)) b c tt (λ row l rest. grown (b ∷ c) d row at u (long ∙ sym even) l rest writes)
+pub created_more : (told after : Option (List ℕ)) (result : Result ℕ Trouble) (size : ℕ) (u : List ℕ) → IfSome told (λ c. length c ≡ size) → (size ≡ 0 → ⊥) → IfOk result (λ at. Turns told after (Places at u)) → IfOk result (λ at. Creates at u (heap_told told) (heap_told after))
+created_more told after (Ok at) size u long some places = created_placed told after at size u long some places
+created_more told after (Err t) size u long some places = tt
 
 -- the first content
 pub created_first : (told mid after : Option (List ℕ)) (u : List ℕ) → IfSome told (λ c. length c ≡ 0) → Turns told mid NewTable → Turns mid after (WritesUsed 8 u) → Creates 8 u (heap_told told) (heap_told after)
@@ -97,54 +83,7 @@ created_first (Some []) None after u long table writes = absurd table
 created_first (Some []) (Some d) None u long table writes = absurd writes
 created_first (Some []) (Some d) (Some e) u long table writes =
     let all = lays_length d [] table in
-    subst (λ (o : Option Contents). Creates 8 u o (heap_in e)) (sym no_contents) (grown d e [] 8 u (omega (arith, all)) table rest_new writes)
-
--- a content in a free block, of which the rest stays free
-filled : (c d e : List ℕ) (row : List Extent) (at : ℕ) (u : List ℕ) → Lays c row → AtRest row → FindsRoom (atoms_for (length u)) (Some at) c → TakesPart at (atoms_for (length u)) c d → WritesUsed at u d e → (content_of at (heap row) ≡ None) × (heap row ≡ [] → at ≡ 8) × (heap_in e ≡ Some (with_content at u (heap row)))
-filled c d e row at u l rest room takes w =
-    let n : ℕ = atoms_for (length u) in
-    let r = room row l in
-    let s : ℕ = r.0 in
-    let f = found 8 row at (Free s) r.1 in
-    let x : List Extent = f.0 in
-    let y : List Extent = f.1 in
-    let place : at ≡ 8 + atoms_in x = f.3 in
-    let solid : Solid (x ++ Free s ∷ y) = subst (λ (z : List Extent). Solid z) f.2 l.spells.solid in
-    let before : Lays c (x ++ Free s ∷ y) = subst (λ (z : List Extent). Lays c z) f.2 l in
-    let stood : AtRest (x ++ Free s ∷ y) = subst (λ (z : List Extent). AtRest z) f.2 rest in
-    let hole : Lays d (x ++ Hole n ∷ (left_over (s - n) ++ y)) = takes x y s place r.2 before in
-    let lays : Lays (put (16 * at) w.0 d) (x ++ Used u ∷ (left_over (s - n) ++ y)) = lays_filled d x (Used u) (left_over (s - n) ++ y) at w.0 place refl w.1 hole in
-    let there : Lays e (x ++ Used u ∷ (left_over (s - n) ++ y)) = subst (λ (z : List ℕ). Lays z (x ++ Used u ∷ (left_over (s - n) ++ y))) (sym w.2) lays in
-    let done = rests x y s r.2 solid stood in (
-      unused row at (Some (Free s)) l.spells.solid r.1 refl,
-      λ none. absurd (not_empty x (Free s) y (sym f.2 ∙ empty_row row l.spells.solid rest none)),
-      lays_heap e (x ++ Used u ∷ (left_over (s - n) ++ y)) there done.0 ∙ ap (λ (m : Contents). Some m) done.1 ∙ ap (λ (q : ℕ). Some (with_content q u (heap (x ++ Free s ∷ y)))) (sym place) ∙ ap (λ (z : List Extent). Some (with_content at u (heap z))) (sym f.2),
-    )
-  where
-    not_empty : (x : List Extent) (e : Extent) (y : List Extent) → x ++ e ∷ y ≡ [] → ⊥
-    not_empty [] e y is = cc
-    not_empty (b ∷ x) e y is = cc
-
-    rests : (x y : List Extent) (s : ℕ) → atoms_for (length u) ≤ s → Solid (x ++ Free s ∷ y) → AtRest (x ++ Free s ∷ y) → AtRest (x ++ Used u ∷ (left_over (s - atoms_for (length u)) ++ y)) × (heap (x ++ Used u ∷ (left_over (s - atoms_for (length u)) ++ y)) ≡ with_content (8 + atoms_in x) u (heap (x ++ Free s ∷ y)))
-    rests x y s room solid rest = elim (cases_eq (s - atoms_for (length u)) 0) [
-      | inl none ↦
-          let same : s ≡ atoms_for (length u) = omega (arith, none, room) in
-          let made = made_whole x u y (subst (λ (k : ℕ). Solid (x ++ Free k ∷ y)) same solid) (subst (λ (k : ℕ). AtRest (x ++ Free k ∷ y)) same rest) in
-          subst (λ (z : List Extent). AtRest (x ++ Used u ∷ (z ++ y)) × (heap (x ++ Used u ∷ (z ++ y)) ≡ with_content (8 + atoms_in x) u (heap (x ++ Free s ∷ y)))) (sym (left_none (s - atoms_for (length u)) none))
-          (made.0, made.1 ∙ ap (λ (k : ℕ). with_content (8 + atoms_in x) u (heap (x ++ Free k ∷ y))) (sym same))
-      | inr some ↦
-          let whole : s ≡ atoms_for (length u) + (s - atoms_for (length u)) = omega (arith, room) in
-          let made = made_part x u (s - atoms_for (length u)) y (omega (arith, some)) (subst (λ (k : ℕ). Solid (x ++ Free k ∷ y)) whole solid) (subst (λ (k : ℕ). AtRest (x ++ Free k ∷ y)) whole rest) (atoms_some (length u)) in
-          subst (λ (z : List Extent). AtRest (x ++ Used u ∷ (z ++ y)) × (heap (x ++ Used u ∷ (z ++ y)) ≡ with_content (8 + atoms_in x) u (heap (x ++ Free s ∷ y)))) (sym (left_some (s - atoms_for (length u)) some))
-          (made.0, made.1 ∙ ap (λ (k : ℕ). with_content (8 + atoms_in x) u (heap (x ++ Free k ∷ y))) (sym whole))
-    ]
-
-pub created_within : (told mid after : Option (List ℕ)) (at size : ℕ) (u : List ℕ) → IfSome told (λ c. length c ≡ size) → 128 ≤ size → IfSome told (FindsRoom (atoms_for (length u)) (Some at)) → Turns told mid (TakesPart at (atoms_for (length u))) → Turns mid after (WritesUsed at u) → Creates at u (heap_told told) (heap_told after)
-created_within None mid after at size u long table room takes writes = tt
-created_within (Some []) mid after at size u long table room takes writes = absurd (omega (arith, long, table))
-created_within (Some (b ∷ c)) None after at size u long table room takes writes = absurd takes
-created_within (Some (b ∷ c)) (Some d) None at size u long table room takes writes = absurd writes
-created_within (Some (b ∷ c)) (Some d) (Some e) at size u long table room takes writes = by_row (λ o. Creates at u o (heap_in e)) b c tt (λ row l rest. filled (b ∷ c) d e row at u l rest room takes writes)
+    subst (λ (o : Option Contents). Creates 8 u o (heap_in e)) (sym no_contents) (placed_creates e [] 8 u (grown d e [] 8 u (omega (arith, all)) table rest_new writes))
 
 -- no free block has room
 pub none_free : (told : Option (List ℕ)) (atoms : ℕ) → 1 ≤ atoms → IfSome told (FindsRoom atoms None) → most_free_told told < atoms

@@ -51,3 +51,10 @@ full_same T Q atoms most most_here old old_here now limit limit_here (Err (troub
     (subst (λ (k : ℕ). IsFull atoms most_here k now (Some limit) a b) same
     (subst (λ (k : ℕ). IsFull atoms most_here old_here now (Some k) a b) same_limit refuses))
 full_same T Q atoms most most_here old old_here now limit limit_here (Err trouble.Damaged) same_most same same_limit refuses = absurd refuses
+
+-- an answer of one sort is one of another, where it says more
+pub full_more : (T U : Type 0) (F G : ℕ → ℕ → Type 0) (P Q : Type 0) → ((need most : ℕ) → F need most → G need most) → (P → Q) → (t : Trouble) → Refuses {T = T} F P (Err t) → Refuses {T = U} G Q (Err t)
+full_more T U F G P Q full more trouble.Failed refuses = tt
+full_more T U F G P Q full more trouble.NoMemory refuses = tt
+full_more T U F G P Q full more (trouble.Full a b) refuses = full a b refuses
+full_more T U F G P Q full more trouble.Damaged refuses = more refuses

@@ -12,3 +12,9 @@ pub mod Finds
 pub mod Spelled
 pub mod Created
 pub mod Fulls
+pub mod Gaps
+pub mod Sites
+pub mod Removed
+pub mod Placed
+pub mod Replaced
+pub mod Held

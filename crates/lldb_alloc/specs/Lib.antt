@@ -3,3 +3,7 @@ pub mod Reads
 pub mod Told
 pub mod Changes
 pub mod Room
+pub mod Releases
+pub mod Handles
+pub mod Places
+pub mod Meant

@@ -46,3 +46,22 @@ pub(crate) fn write_bytes<F: Filer>(filer: &mut F, at: u64, piece: &[u8]) -> Res
 {
     filer.write_at(at, piece)
 }
+
+/// Cuts the content to a size.
+pub(crate) fn cut_bytes<F: Filer>(filer: &mut F, size: u64) -> Result<(), Trouble>
+    requires sound { IsTrue (F.is_sound filer.old) }
+    requires depth { 1 ≤ length (F.saved filer.old) }
+    requires within { size ≤ F.size_of filer.old }
+    ensures cut { OnOk result (F.content filer.new ≡ option_map (take size)
+        (F.content filer.old)) }
+    ensures size { OnOk result (F.size_of filer.new ≡ size) }
+    ensures size_kept { OnErr result (F.size_of filer.new ≡ F.size_of filer.old) }
+    ensures refuses { Refuses (λ _ _. ⊥) ⊥ result }
+    ensures frame { KeepsLevels F.saved F.saved_sizes F.limit_of F.is_sound F.told F.left F.fixed
+        filer.old filer.new }
+    ensures stops { KeepsStops F.content F.saved F.may_leave F.moment F.left_since F.told filer.old
+        filer.new }
+    ensures cause { IsCausedTrouble result (F.faults filer.old) (F.faults filer.new) }
+{
+    filer.truncate(size)
+}

@@ -137,7 +137,7 @@ fn first_free(atoms: u64, next: u64) -> Block
 }
 
 /// Writes the head of a block over bytes that are there.
-fn write_front<F: Filer>(filer: &mut F, at: u64, block: &Block) -> Result<(), Trouble>
+pub(crate) fn write_front<F: Filer>(filer: &mut F, at: u64, block: &Block) -> Result<(), Trouble>
     requires sound { IsTrue (F.is_sound filer.old) }
     requires depth { 1 ≤ length (F.saved filer.old) }
     requires most { F.size_of filer.old ≤ 2 ^ 60 }

@@ -113,7 +113,7 @@ fn read_used<F: Filer>(filer: &mut F, at: u64, head: &Block, out: &mut Bytes) ->
 }
 
 /// What a block names that is relocated.
-fn target_of(block: &Block) -> Option<u64>
+pub(crate) fn target_of(block: &Block) -> Option<u64>
     ensures { MatchOption result ((t : ℕ) → block.now ≡ Block.Relocated t → ⊥)
         (λ t. block.now ≡ Block.Relocated t) }
 {

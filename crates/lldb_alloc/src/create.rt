@@ -5,6 +5,7 @@ ghost use Rattle.lldb_base.specs.Heaps.{IsFull, most_added};
 ghost use Rattle.lldb_base.specs.Trouble.{IsCausedTrouble, Refuses, IsOver};
 ghost use Rattle.lldb_alloc.specs.Frames.{KeepsLevels, KeepsStops};
 ghost use Rattle.lldb_alloc.specs.Changes.{Turns, NewTable};
+ghost use Rattle.lldb_alloc.specs.Places.{Places};
 ghost use Rattle.lldb_alloc.specs.Room.{FindsRoom, most_free_told};
 ghost use Rattle.lldb_alloc.specs.Told.{heap_told, Creates};
 
@@ -62,7 +63,7 @@ fn create_first<F: Filer>(filer: &mut F, content: &[u8]) -> Result<u64, Trouble>
 }
 
 /// Adds a content in a free block that has enough atoms.
-#[tactic(auto, using(crate::proofs::Stays::stops_none, crate::proofs::Stays::stops_then, crate::proofs::Created::created_within))]
+#[tactic(auto, using(crate::proofs::Stays::stops_none, crate::proofs::Stays::stops_then, crate::proofs::Placed::placed_within))]
 fn create_within<F: Filer>(filer: &mut F, at: u64, content: &[u8]) -> Result<u64, Trouble>
     requires sound { IsTrue (F.is_sound filer.old) }
     requires depth { 1 ≤ length (F.saved filer.old) }
@@ -71,8 +72,10 @@ fn create_within<F: Filer>(filer: &mut F, at: u64, content: &[u8]) -> Result<u64
     requires most { length content.now ≤ 65787 }
     requires room { IfSome (F.content filer.old) (FindsRoom (atoms_for (length content.now))
         (Some at)) }
-    ensures created { IfOk result (λ handle. Creates handle content.now
-        (heap_told (F.content filer.old)) (heap_told (F.content filer.new))) }
+    ensures placed { IfOk result (λ at. Turns (F.content filer.old) (F.content filer.new) (Places at
+        content.now)) }
+    ensures within { IfOk result (λ at. 16 * (at + atoms_for (length content.now)) ≤ F.size_of
+        filer.new) }
     ensures range { IfOk result (λ handle. (8 ≤ handle) × (handle < 2 ^ 64)) }
     ensures size { F.size_of filer.new ≡ F.size_of filer.old }
     ensures refuses { Refuses (λ _ _. ⊥) (heap_told (F.content filer.old) ≡ None) result }
@@ -89,7 +92,7 @@ fn create_within<F: Filer>(filer: &mut F, at: u64, content: &[u8]) -> Result<u64
 }
 
 /// Adds a content behind the last block.
-#[tactic(auto, using(crate::proofs::Stays::stops_none, crate::proofs::Stays::stops_then, crate::proofs::Created::created_behind))]
+#[tactic(auto, using(crate::proofs::Stays::stops_none, crate::proofs::Stays::stops_then, crate::proofs::Placed::placed_behind))]
 fn create_behind<F: Filer>(filer: &mut F, content: &[u8]) -> Result<u64, Trouble>
     requires sound { IsTrue (F.is_sound filer.old) }
     requires depth { 1 ≤ length (F.saved filer.old) }
@@ -99,9 +102,12 @@ fn create_behind<F: Filer>(filer: &mut F, content: &[u8]) -> Result<u64, Trouble
     requires most { length content.now ≤ 65787 }
     requires room { IfSome (F.content filer.old) (FindsRoom (atoms_for (length content.now))
         None) }
-    ensures created { IfOk result (λ handle. Creates handle content.now
-        (heap_told (F.content filer.old)) (heap_told (F.content filer.new))) }
+    ensures placed { IfOk result (λ at. Turns (F.content filer.old) (F.content filer.new) (Places at
+        content.now)) }
+    ensures within { IfOk result (λ at. 16 * (at + atoms_for (length content.now)) ≤ F.size_of
+        filer.new) }
     ensures range { IfOk result (λ handle. (8 ≤ handle) × (handle < 2 ^ 64)) }
+    ensures stays { F.size_of filer.old ≤ F.size_of filer.new }
     ensures grows { F.size_of filer.new ≤ F.size_of filer.old
         + 16 * atoms_for (length content.now) }
     ensures fits { F.size_of filer.new ≤ max (F.size_of filer.old) (F.limit_of filer.old) }
@@ -119,16 +125,19 @@ fn create_behind<F: Filer>(filer: &mut F, content: &[u8]) -> Result<u64, Trouble
     Ok(at)
 }
 
-/// Adds a content to one that is not empty.
-fn create_more<F: Filer>(filer: &mut F, content: &[u8]) -> Result<u64, Trouble>
+/// Puts a content where none stood, in a filer's content that is not empty, and answers its atom.
+pub(crate) fn place_content<F: Filer>(filer: &mut F, content: &[u8]) -> Result<u64, Trouble>
     requires sound { IsTrue (F.is_sound filer.old) }
     requires depth { 1 ≤ length (F.saved filer.old) }
     requires limits { F.size_of filer.old ≤ 2 ^ 60 }
     requires some { F.size_of filer.old ≡ 0 → ⊥ }
     requires most { length content.now ≤ 65787 }
-    ensures created { IfOk result (λ handle. Creates handle content.now
-        (heap_told (F.content filer.old)) (heap_told (F.content filer.new))) }
+    ensures placed { IfOk result (λ at. Turns (F.content filer.old) (F.content filer.new) (Places at
+        content.now)) }
+    ensures within { IfOk result (λ at. 16 * (at + atoms_for (length content.now)) ≤ F.size_of
+        filer.new) }
     ensures range { IfOk result (λ handle. (8 ≤ handle) × (handle < 2 ^ 64)) }
+    ensures stays { F.size_of filer.old ≤ F.size_of filer.new }
     ensures grows { F.size_of filer.new ≤ F.size_of filer.old
         + 16 * atoms_for (length content.now) }
     ensures fits { F.size_of filer.new ≤ max (F.size_of filer.old) (F.limit_of filer.old) }
@@ -181,6 +190,6 @@ pub fn create_content<F: Filer>(filer: &mut F, content: &[u8]) -> Result<u64, Tr
     if filer.size() == 0 {
         create_first(filer, content)
     } else {
-        create_more(filer, content)
+        place_content(filer, content)
     }
 }

@@ -1,5 +1,5 @@
 //! Heads of blocks, read from a filer.
-ghost use Rattle.std.specs.Prelude.{◌≡◌, ⊤, ◌+◌, ◌-◌, ◌*◌, ◌^◌, ◌≤◌, min, IsTrue, take, drop, OnOk, IfOk, IfSome};
+ghost use Rattle.std.specs.Prelude.{◌≡◌, ⊤, ◌+◌, ◌-◌, ◌*◌, ◌^◌, ◌≤◌, min, IsTrue, take, drop, IfOk, IfSome};
 ghost use Rattle.lldb_base.specs.Trouble.{IsCausedTrouble, Refuses};
 ghost use Rattle.lldb_atoms.specs.Heads.{atoms_of, IsValid};
 ghost use Rattle.lldb_alloc.specs.Frames.{KeepsLevels, KeepsContent, KeepsStops};

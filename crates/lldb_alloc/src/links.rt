@@ -63,7 +63,7 @@ fn links_from(atoms: u64) -> u64
 
 /// A free block as its head tells it.
 #[tactic(auto, using(crate::proofs::Uses::many_head, crate::proofs::Uses::short_not_free, crate::proofs::Uses::long_not_free, crate::proofs::Uses::moved_not_free))]
-fn free_of(block: &Block) -> Option<FreeBlock>
+pub(crate) fn free_of(block: &Block) -> Option<FreeBlock>
     requires { IsValid block.now }
     ensures head { MatchOption result ((s p n : ℕ) → block.now ≡ free_head s p n → ⊥)
         (λ free. block.now ≡ free_head free.atoms free.previous free.next) }

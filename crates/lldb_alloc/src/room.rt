@@ -50,7 +50,7 @@ pub(crate) fn first_fit<F: Filer>(
 }
 
 /// The first block of the first list from a class on that is not empty.
-fn first_from<F: Filer>(filer: &mut F, from: u8) -> Result<Option<u64>, Trouble>
+pub(crate) fn first_from<F: Filer>(filer: &mut F, from: u8) -> Result<Option<u64>, Trouble>
     requires sound { IsTrue (F.is_sound filer.old) }
     requires most { F.size_of filer.old ≤ 2 ^ 60 }
     requires table { 128 ≤ F.size_of filer.old }

@@ -136,6 +136,8 @@ record Alone (at total : ℕ) (d : List ℕ) (old : List Extent) : Type 0 where
   closed_y : ends_free false y ≡ false
   named : Named (x ++ Hole total ∷ y)
   heap_is : heap (x ++ Hole total ∷ y) ≡ heap old
+  used_are : (q : ℕ) → used_content (extent_at 8 (x ++ Hole total ∷ y) q) ≡ used_content (extent_at 8 old q)
+  targets_are : targets (x ++ Hole total ∷ y) ≡ targets old
   atoms_are : atoms_in (x ++ Hole total ∷ y) ≡ atoms_in old
 
 -- the same where only the one behind is not free
@@ -146,6 +148,8 @@ record Before (at total : ℕ) (d : List ℕ) (old : List Extent) (x : List Exte
   closed_y : ends_free false y ≡ false
   named : Named (x ++ Hole total ∷ y)
   heap_is : heap (x ++ Hole total ∷ y) ≡ heap old
+  used_are : (q : ℕ) → used_content (extent_at 8 (x ++ Hole total ∷ y) q) ≡ used_content (extent_at 8 old q)
+  targets_are : targets (x ++ Hole total ∷ y) ≡ targets old
   atoms_are : atoms_in (x ++ Hole total ∷ y) ≡ atoms_in old
 
 pub not_last : (y : List Extent) → ends_free true y ≡ false → ends_free false y ≡ false
@@ -154,18 +158,18 @@ not_last (e ∷ y) closed = closed
 
 taken_behind : (at s total : ℕ) (c d : List ℕ) (x y : List Extent) → TakesBehind at s total c d → at ≡ 8 + atoms_in x → Lays c (x ++ Hole s ∷ y) → are_spaced false y ≡ true → ends_free false y ≡ false → Named (x ++ Hole s ∷ y) → Before at total d (x ++ Hole s ∷ y) x
 taken_behind at s total c d x [] takes place l spread closed named =
-    let r = takes.other x [] place refl l in
+    let r = takes.other x [] place refl refl l in
     subst (λ (k : ℕ). Before at k d (x ++ Hole s ∷ []) x) (sym r.0)
-    (record { y = []; lays = subst (λ (k : ℕ). Lays d (x ++ Hole k ∷ [])) r.0 r.1; spread_y = refl; closed_y = refl; named = named; heap_is = refl; atoms_are = refl })
+    (record { y = []; lays = subst (λ (k : ℕ). Lays d (x ++ Hole k ∷ [])) r.0 r.1; spread_y = refl; closed_y = refl; named = named; heap_is = refl; used_are = λ q. refl; targets_are = refl; atoms_are = refl })
 taken_behind at s total c d x (Used u ∷ y) takes place l spread closed named =
-    let r = takes.other x (Used u ∷ y) place refl l in
+    let r = takes.other x (Used u ∷ y) place refl spread l in
     subst (λ (k : ℕ). Before at k d (x ++ Hole s ∷ Used u ∷ y) x) (sym r.0)
-    (record { y = Used u ∷ y; lays = subst (λ (k : ℕ). Lays d (x ++ Hole k ∷ Used u ∷ y)) r.0 r.1; spread_y = spread; closed_y = closed; named = named; heap_is = refl; atoms_are = refl })
+    (record { y = Used u ∷ y; lays = subst (λ (k : ℕ). Lays d (x ++ Hole k ∷ Used u ∷ y)) r.0 r.1; spread_y = spread; closed_y = closed; named = named; heap_is = refl; used_are = λ q. refl; targets_are = refl; atoms_are = refl })
 taken_behind at s total c d x (Compressed u ∷ y) takes place l spread closed named = absurd (false≢true spread)
 taken_behind at s total c d x (Moved t ∷ y) takes place l spread closed named =
-    let r = takes.other x (Moved t ∷ y) place refl l in
+    let r = takes.other x (Moved t ∷ y) place refl spread l in
     subst (λ (k : ℕ). Before at k d (x ++ Hole s ∷ Moved t ∷ y) x) (sym r.0)
-    (record { y = Moved t ∷ y; lays = subst (λ (k : ℕ). Lays d (x ++ Hole k ∷ Moved t ∷ y)) r.0 r.1; spread_y = spread; closed_y = closed; named = named; heap_is = refl; atoms_are = refl })
+    (record { y = Moved t ∷ y; lays = subst (λ (k : ℕ). Lays d (x ++ Hole k ∷ Moved t ∷ y)) r.0 r.1; spread_y = spread; closed_y = closed; named = named; heap_is = refl; used_are = λ q. refl; targets_are = refl; atoms_are = refl })
 taken_behind at s total c d x (Free t ∷ y) takes place l spread closed named =
     let r = takes.free x y t place l in
     let solid = Solid_right x (Hole s ∷ Free t ∷ y) l.spells.solid in
@@ -180,6 +184,8 @@ taken_behind at s total c d x (Free t ∷ y) takes place l spread closed named =
       closed_y = not_last y closed;
       named = Named_exchanged x (Hole s ∷ Free t ∷ []) (Hole (s + t) ∷ []) y (refl, (refl, tt)) (refl, tt) (some, (more, tt)) (joined, tt) (omega arith) named;
       heap_is = sym (heap_exchanged x (Hole s ∷ Free t ∷ []) (Hole (s + t) ∷ []) y (refl, (refl, tt)) (refl, tt) l.spells.solid (joined, tt) (omega arith));
+      used_are = λ q. sym (look_exchanged used_content x (Hole s ∷ Free t ∷ []) (Hole (s + t) ∷ []) y 8 q (refl, (refl, tt)) (refl, tt) (some, (more, tt)) (joined, tt) (omega arith));
+      targets_are = sym (targets_exchanged x (Hole s ∷ Free t ∷ []) (Hole (s + t) ∷ []) y (refl, (refl, tt)) (refl, tt));
       atoms_are = atoms_append x (Hole (s + t) ∷ y) ∙ (let e = atoms_append x (Hole s ∷ Free t ∷ y) in omega (arith, e));
     })
 taken_behind at s total c d x (Hole t ∷ y) takes place l spread closed named = absurd (false≢true spread)
@@ -187,7 +193,7 @@ taken_behind at s total c d x (Hole t ∷ y) takes place l spread closed named =
 taken_before : (at s from total : ℕ) (c d : List ℕ) (x : List Extent) (old : List Extent) → TakesBefore at s from total c d → at ≡ 8 + atoms_in x → are_spaced false x ≡ true → Before at s c old x → Alone from total d old
 taken_before at s from total c d x old takes place spread b = elim (back_cases x) [
   | inl other ↦
-      let r = takes.other x b.y place other b.lays in
+      let r = takes.other x b.y place other spread b.lays in
       subst (λ (k : ℕ). Alone from k d old) (sym r.1)
       (record {
         x = x;
@@ -200,6 +206,8 @@ taken_before at s from total c d x old takes place spread b = elim (back_cases x
         closed_y = b.closed_y;
         named = b.named;
         heap_is = b.heap_is;
+        used_are = b.used_are;
+        targets_are = b.targets_are;
         atoms_are = b.atoms_are;
       })
   | inr ends ↦ merged ends.0 ends.1 ends.2
@@ -227,14 +235,16 @@ taken_before at s from total c d x old takes place spread b = elim (back_cases x
           closed_y = b.closed_y;
           named = Named_exchanged u (Free t ∷ Hole s ∷ []) (Hole (t + s) ∷ []) b.y (refl, (refl, tt)) (refl, tt) (some, (solid.1.0, tt)) (joined, tt) (omega arith) (subst (λ (v : List Extent). Named v) row_is b.named);
           heap_is = sym (heap_exchanged u (Free t ∷ Hole s ∷ []) (Hole (t + s) ∷ []) b.y (refl, (refl, tt)) (refl, tt) (subst (λ (v : List Extent). Solid v) row_is b.lays.spells.solid) (joined, tt) (omega arith)) ∙ ap heap (sym row_is) ∙ b.heap_is;
+          used_are = λ q. sym (look_exchanged used_content u (Free t ∷ Hole s ∷ []) (Hole (t + s) ∷ []) b.y 8 q (refl, (refl, tt)) (refl, tt) (some, (solid.1.0, tt)) (joined, tt) (omega arith)) ∙ ap (λ (v : List Extent). used_content (extent_at 8 v q)) (sym row_is) ∙ b.used_are q;
+          targets_are = sym (targets_exchanged u (Free t ∷ Hole s ∷ []) (Hole (t + s) ∷ []) b.y (refl, (refl, tt)) (refl, tt)) ∙ ap targets (sym row_is) ∙ b.targets_are;
           atoms_are = atoms_append u (Hole (t + s) ∷ b.y) ∙ (let e = atoms_append u (Free t ∷ Hole s ∷ b.y) in omega (arith, e)) ∙ ap atoms_in (sym row_is) ∙ b.atoms_are;
         })
 
 given_up : (at s : ℕ) (c d : List ℕ) (old : List Extent) → GivesUp at s c d → Alone at s c old → Settled d old
-given_up at s c d old gives a = last a.x a.y a.place a.lays a.spread_x a.closed_x a.spread_y a.closed_y a.named a.heap_is a.atoms_are
+given_up at s c d old gives a = last a.x a.y a.place a.lays a.spread_x a.closed_x a.spread_y a.closed_y a.named a.heap_is a.used_are a.targets_are a.atoms_are
   where
-    last : (x y : List Extent) → at ≡ 8 + atoms_in x → Lays c (x ++ Hole s ∷ y) → are_spaced false x ≡ true → ends_free false x ≡ false → are_spaced true y ≡ true → ends_free false y ≡ false → Named (x ++ Hole s ∷ y) → heap (x ++ Hole s ∷ y) ≡ heap old → atoms_in (x ++ Hole s ∷ y) ≡ atoms_in old → Settled d old
-    last x [] place l spread_x closed_x spread_y closed_y named heap_is atoms_are =
+    last : (x y : List Extent) → at ≡ 8 + atoms_in x → Lays c (x ++ Hole s ∷ y) → are_spaced false x ≡ true → ends_free false x ≡ false → are_spaced true y ≡ true → ends_free false y ≡ false → Named (x ++ Hole s ∷ y) → heap (x ++ Hole s ∷ y) ≡ heap old → ((q : ℕ) → used_content (extent_at 8 (x ++ Hole s ∷ y) q) ≡ used_content (extent_at 8 old q)) → targets (x ++ Hole s ∷ y) ≡ targets old → atoms_in (x ++ Hole s ∷ y) ≡ atoms_in old → Settled d old
+    last x [] place l spread_x closed_x spread_y closed_y named heap_is used_are targets_are atoms_are =
         let solid = Solid_left x (Hole s ∷ []) l.spells.solid in
         let some = Solid_right x (Hole s ∷ []) l.spells.solid in
         record {
@@ -242,15 +252,19 @@ given_up at s c d old gives a = last a.x a.y a.place a.lays a.spread_x a.closed_
           lays = gives.end x place l;
           rest = rest_cut x s solid spread_x closed_x named;
           heap_is = sym (heap_longer x (Hole s ∷ []) (refl, tt) solid some) ∙ heap_is;
+          used_are = λ q. sym (look_longer used_content x (Hole s ∷ []) 8 q (refl, tt) solid) ∙ used_are q;
+          targets_are = sym (targets_longer x (Hole s ∷ []) (refl, tt)) ∙ targets_are;
           atoms_are = let e = atoms_append x (Hole s ∷ []) in omega (arith, e, atoms_are);
         }
-    last x (e ∷ y) place l spread_x closed_x spread_y closed_y named heap_is atoms_are =
+    last x (e ∷ y) place l spread_x closed_x spread_y closed_y named heap_is used_are targets_are atoms_are =
         let some = Solid_right x (Hole s ∷ e ∷ y) l.spells.solid in
         record {
           row = x ++ Free s ∷ e ∷ y;
           lays = gives.within x e y place l;
           rest = rest_freed x s e y some.0 spread_x closed_x spread_y closed_y named;
           heap_is = sym (heap_exchanged x (Hole s ∷ []) (Free s ∷ []) (e ∷ y) (refl, tt) (refl, tt) l.spells.solid (some.0, tt) refl) ∙ heap_is;
+          used_are = λ q. sym (look_exchanged used_content x (Hole s ∷ []) (Free s ∷ []) (e ∷ y) 8 q (refl, tt) (refl, tt) (some.0, tt) (some.0, tt) refl) ∙ used_are q;
+          targets_are = sym (targets_exchanged x (Hole s ∷ []) (Free s ∷ []) (e ∷ y) (refl, tt) (refl, tt)) ∙ targets_are;
           atoms_are = let a = atoms_append x (Hole s ∷ e ∷ y) in let b = atoms_append x (Free s ∷ e ∷ y) in omega (arith, a, b, atoms_are);
         }
 

@@ -1,8 +1,8 @@
 -- What a write does to the row that lies in a content, whatever the row.
-use Rattle.std.specs.Prelude.{◌≡◌, ℕ, ◌+◌, ◌≤◌, max, Bool, false, List, [], ◌∷◌, ◌++◌, nat_eq, if◌then◌else◌, MatchBool}
+use Rattle.std.specs.Prelude.{◌≡◌, ℕ, ◌+◌, ◌≤◌, max, Bool, true, false, List, [], ◌∷◌, ◌++◌, nat_eq, if◌then◌else◌, MatchBool}
 use Rattle.lldb_atoms.specs.Blocks.{Extent, Used, Compressed, Moved, Free, Hole, is_free}
 use Rattle.lldb_atoms.specs.Numbers.{as_bytes}
-use Rattle.lldb_atoms.specs.Rows.{atoms_in, ends_free, heap}
+use Rattle.lldb_atoms.specs.Rows.{atoms_in, extent_at, used_content, targets, are_spaced, ends_free, heap}
 use Rattle.lldb_blocks.specs.Links.{at_one}
 use Rattle.lldb_blocks.specs.Laid.{Spells, Lays, AtRest}
 
@@ -55,27 +55,31 @@ abbrev pub begins_free : List Extent → Bool
 begins_free [] = false
 begins_free (e ∷ row) = is_free e
 
--- a hole takes in the free block behind it, where there is one, and has so many atoms then
+-- a hole takes in the free block behind it, where there is one, and has so many atoms then; no other hole stands behind it
 pub record TakesBehind (at atoms total : ℕ) (c d : List ℕ) : Type 0 where
   pub free : (x y : List Extent) (more : ℕ) → at ≡ 8 + atoms_in x → Lays c (x ++ Hole atoms ∷ Free more ∷ y) → (total ≡ atoms + more) × Lays d (x ++ Hole total ∷ y)
-  pub other : (x y : List Extent) → at ≡ 8 + atoms_in x → begins_free y ≡ false → Lays c (x ++ Hole atoms ∷ y) → (total ≡ atoms) × Lays d (x ++ Hole total ∷ y)
+  pub other : (x y : List Extent) → at ≡ 8 + atoms_in x → begins_free y ≡ false → are_spaced false y ≡ true → Lays c (x ++ Hole atoms ∷ y) → (total ≡ atoms) × Lays d (x ++ Hole total ∷ y)
 
--- a hole takes in the free block before it, where there is one, and then begins at `from` and has so many atoms
+-- a hole takes in the free block before it, where there is one, and then begins at `from` and has so many atoms; no other hole
+-- stands before it
 pub record TakesBefore (at atoms from total : ℕ) (c d : List ℕ) : Type 0 where
   pub free : (x y : List Extent) (more : ℕ) → at ≡ 8 + atoms_in (x ++ Free more ∷ []) → Lays c ((x ++ Free more ∷ []) ++ Hole atoms ∷ y) → (from ≡ 8 + atoms_in x) × (total ≡ more + atoms) × Lays d (x ++ Hole total ∷ y)
-  pub other : (x y : List Extent) → at ≡ 8 + atoms_in x → ends_free false x ≡ false → Lays c (x ++ Hole atoms ∷ y) → (from ≡ at) × (total ≡ atoms) × Lays d (x ++ Hole total ∷ y)
+  pub other : (x y : List Extent) → at ≡ 8 + atoms_in x → ends_free false x ≡ false → are_spaced false x ≡ true → Lays c (x ++ Hole atoms ∷ y) → (from ≡ at) × (total ≡ atoms) × Lays d (x ++ Hole total ∷ y)
 
 -- a hole is cut off where it is the last, and else comes into a list
 pub record GivesUp (at atoms : ℕ) (c d : List ℕ) : Type 0 where
   pub end : (x : List Extent) → at ≡ 8 + atoms_in x → Lays c (x ++ Hole atoms ∷ []) → Lays d x
   pub within : (x : List Extent) (e : Extent) (y : List Extent) → at ≡ 8 + atoms_in x → Lays c (x ++ Hole atoms ∷ e ∷ y) → Lays d (x ++ Free atoms ∷ e ∷ y)
 
--- a content is that of a row at rest with the heap of another row, and with no more atoms
+-- a content is that of a row at rest with the heap of another row, its used blocks and what its relocated ones name, and with no
+-- more atoms
 pub record Settled (content : List ℕ) (old : List Extent) : Type 0 where
   pub row : List Extent
   pub lays : Lays content row
   pub rest : AtRest row
   pub heap_is : heap row ≡ heap old
+  pub used_are : (atom : ℕ) → used_content (extent_at 8 row atom) ≡ used_content (extent_at 8 old atom)
+  pub targets_are : targets row ≡ targets old
   pub atoms_are : atoms_in row ≤ atoms_in old
 
 -- the most atoms of a free block, 0 where there is none

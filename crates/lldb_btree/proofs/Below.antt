@@ -14,11 +14,12 @@ use Rattle.lldb_btree.specs.Bounds.{is_ahead}
 use Rattle.lldb_btree.specs.Changes.{Becomes, CanEdit, IsEdited, CanStore, IsStored}
 use Rattle.lldb_btree.specs.Footprints.{times}
 use Rattle.lldb_btree.specs.Nodes.{Entry, is_leaf, entries, body, spelling, pair_entry, child_entry, FitsChild}
-use Rattle.lldb_btree.specs.Pairs.{FitsPair, Rises, keys_of, insert}
+use Rattle.lldb_btree.specs.Pairs.{FitsPair, Rises, keys_of, find, insert, delete}
 use Rattle.lldb_btree.specs.Reading.{mark}
 use Rattle.lldb_btree.specs.Splicing.{AddsNodes, AreNode, IsWay}
 use Rattle.lldb_btree.specs.Trees.{Part, greatest, child_of, pairs_of, footprint_of, IsNode, IsOver}
 use Rattle.lldb_btree.proofs.Ahead.{ahead_falls, none_pass, rises_left, rises_right}
+use Rattle.lldb_btree.proofs.Deletes.{delete_past, delete_within, find_past, find_within}
 use Rattle.lldb_btree.proofs.Edited.{times_append}
 use Rattle.lldb_btree.proofs.Ends.{part_ends}
 use Rattle.lldb_btree.proofs.Inserts.{insert_past, insert_within, insert_fits, insert_count}
@@ -113,18 +114,28 @@ ends : (k v : List ℕ) (ps : List Pair) (r : List Part) → r ≡ [] → insert
 ends k v ps [] e = ap (insert k v) (append-nil ps) ∙ sym (append-nil (insert k v ps))
 ends k v ps (x ∷ r) e = absurd (cc (e))
 
--- the child below which a pair is set, among the parts of its parent
-record Under (told : Option Contents) (m : Contents) (d room : ℕ) (k : List ℕ) (parts : List Part) (front : List ℕ) (child : ℕ) (back : List ℕ) : Type 0 where
-  l : List Part
-  q : Part
-  r : List Part
-  whole : parts ≡ l ++ (q ∷ r)
-  edit : CanEdit told m d 16 q child (room - 1)
-  inserted : (v : List ℕ) → insert k v (pairs_of parts) ≡ pairs_of l ++ (insert k v q.pairs ++ pairs_of r)
-  front_is : front ≡ body (map child_entry (map child_of l))
-  back_is : back ≡ body (map child_entry (map child_of r))
+ends_deleted : (k : List ℕ) (ps : List Pair) (r : List Part) → r ≡ [] → delete k (ps ++ pairs_of r) ≡ delete k ps ++ pairs_of r
+ends_deleted k ps [] e = ap (delete k) (append-nil ps) ∙ sym (append-nil (delete k ps))
+ends_deleted k ps (x ∷ r) e = absurd (cc (e))
 
-way_under : (told : Option Contents) (m : Contents) (d least handle room : ℕ) (p : Part) (k front back : List ℕ) (child : ℕ) (e : CanEdit told m (suc d) least p handle room) → IsWay (is_ahead (From k)) (map child_of e.walk.stands.over.parts) front child back → Under told m d room k e.walk.stands.over.parts front child back
+ends_found : (k : List ℕ) (ps : List Pair) (r : List Part) → r ≡ [] → find k (ps ++ pairs_of r) ≡ find k ps
+ends_found k ps [] e = ap (find k) (append-nil ps)
+ends_found k ps (x ∷ r) e = absurd (cc (e))
+
+-- the child below which a key is set or removed, among the parts of its parent
+pub record Under (told : Option Contents) (m : Contents) (d room : ℕ) (k : List ℕ) (parts : List Part) (front : List ℕ) (child : ℕ) (back : List ℕ) : Type 0 where
+  pub l : List Part
+  pub q : Part
+  pub r : List Part
+  pub whole : parts ≡ l ++ (q ∷ r)
+  pub edit : CanEdit told m d 16 q child (room - 1)
+  pub inserted : (v : List ℕ) → insert k v (pairs_of parts) ≡ pairs_of l ++ (insert k v q.pairs ++ pairs_of r)
+  pub deleted : delete k (pairs_of parts) ≡ pairs_of l ++ (delete k q.pairs ++ pairs_of r)
+  pub found : find k (pairs_of parts) ≡ find k q.pairs
+  pub front_is : front ≡ body (map child_entry (map child_of l))
+  pub back_is : back ≡ body (map child_entry (map child_of r))
+
+pub way_under : (told : Option Contents) (m : Contents) (d least handle room : ℕ) (p : Part) (k front back : List ℕ) (child : ℕ) (e : CanEdit told m (suc d) least p handle room) → IsWay (is_ahead (From k)) (map child_of e.walk.stands.over.parts) front child back → Under told m d room k e.walk.stands.over.parts front child back
 way_under told m d least handle room p k front back child e w =
     let parts : List Part = e.walk.stands.over.parts in
     let ru : Runs (is_ahead (From k)) parts (child_entry w.child) w.rest = runs (is_ahead (From k)) parts (child_entry w.child) w.rest w.sought in
@@ -162,6 +173,8 @@ way_under told m d least handle room p k front back child e w =
         once = λ n. omega (arith, e.once n, ap (times n) foot, counts n l (q ∷ []) r, times_append n q.footprint []);
       };
       inserted = λ v. ap (insert k v) pairs ∙ insert_past k v (pairs_of l) (q.pairs ++ pairs_of r) past ∙ ap (λ (x : List Pair). pairs_of l ++ x) (⊎_elim (λ at_end. insert_within k v q.pairs (pairs_of r) (some_pairs m d q right.0) at_end) (λ nil. ends k v q.pairs r nil) ru.here);
+      deleted = ap (delete k) pairs ∙ delete_past k (pairs_of l) (q.pairs ++ pairs_of r) past ∙ ap (λ (x : List Pair). pairs_of l ++ x) (⊎_elim (λ at_end. delete_within k q.pairs (pairs_of r) (some_pairs m d q right.0) at_end) (λ nil. ends_deleted k q.pairs r nil) ru.here);
+      found = ap (find k) pairs ∙ find_past k (pairs_of l) (q.pairs ++ pairs_of r) past ∙ ⊎_elim (λ at_end. find_within k q.pairs (pairs_of r) (some_pairs m d q right.0) at_end) (λ nil. ends_found k q.pairs r nil) ru.here;
       front_is = w.front_is ∙ ap body front_entries;
       back_is = w.back_is ∙ ap body ru.rest_is;
     }
@@ -216,7 +229,7 @@ inner_ended told read handle room n k v front back child below ends go last both
 
 -- what stands where a child was stored
 abbrev pub StoredBelow : Option Contents → Option Contents → ℕ → List ℕ → Bool → ℕ → List ℕ → List ℕ → Type 0
-StoredBelow mid now child k ends found out node = (m : Contents) (d : ℕ) (pairs : List Pair) (under : List ℕ) → CanStore mid m d child node pairs under → (ends ≡ true → k ≡ greatest pairs) → IsStored now m d (child ∷ under) pairs found out
+StoredBelow mid now child k ends found out node = (m : Contents) (d : ℕ) (pairs : List Pair) (under : List ℕ) → CanStore mid m d child node pairs under → (ends ≡ true → k ≡ greatest pairs) → IsStored now m d 1 (child ∷ under) pairs found out
 
 pub below_refused : (told read : Option Contents) (handle room n : ℕ) (k front back : List ℕ) (child : ℕ) → AllGo told read handle room n k front back child → NoEdit read child (room - 1) → NoEdit told handle room
 below_refused told read handle room n k front back child go none m d least p e =

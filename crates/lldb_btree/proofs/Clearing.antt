@@ -1,5 +1,5 @@
 -- Nodes that are removed, and what is left of the heap.
-use Rattle.std.proofs.Common.{◌≡◌, ⊎_elim, ℕ, zero, suc, ◌+◌, ◌-◌, ◌<◌, ◌≤◌, Bool, true, false, cond, eqb, List, [], ◌∷◌, ◌++◌, length, map, Option, Some, None, IfSome, Result, OnOk, refl, sym, ap, ◌∙◌, arith, length-append}
+use Rattle.std.proofs.Common.{◌≡◌, ⊎_elim, ℕ, zero, suc, ◌+◌, ◌-◌, ◌≤◌, Bool, true, false, cond, eqb, List, [], ◌∷◌, ◌++◌, length, map, Option, Some, None, IfSome, Result, OnOk, refl, sym, ap, ◌∙◌, arith, length-append}
 use Rattle.std.specs.declared.cmp.Ordering.{Ordering}
 use Rattle.std.specs.declared.cmp.Ordering.TheVariants.{Less, Equal, Greater}
 use Rattle.std.specs.Cmp.{nat_cmp_total, tied_itself}
@@ -14,7 +14,6 @@ use Rattle.lldb_base.specs.Contents.{Contents, content_of, without, AreContents}
 use Rattle.lldb_base.specs.Heaps.{MayBeDead}
 use Rattle.lldb_base.specs.declared.trouble.Trouble.{Trouble}
 use Rattle.lldb_btree.specs.declared.node.Child.{Child}
-use Rattle.lldb_btree.specs.declared.node.Pair.{Pair}
 use Rattle.lldb_btree.specs.Changes.{CanEdit, CanClear}
 use Rattle.lldb_btree.specs.Footprints.{times, unless, Edits}
 use Rattle.lldb_btree.specs.Nodes.{entry_bytes, body, child_entry, spelling, FitsChild}
@@ -61,7 +60,7 @@ clear_then a b c xs ys whole live sum once first second = edits_then a b c whole
 abbrev pub Removed : Option Contents → Option Contents → ℕ → Type 0
 Removed told now h = IfSome told (λ map. IfSome (content_of h map) (λ content. now ≡ Some (without h map)))
 
-removed_here : (told now : Option Contents) (m : Contents) (h : ℕ) (content : List ℕ) → told ≡ Some m → content_of h m ≡ Some content → IfSome told AreContents → Removed told now h → IsCleared now m (h ∷ [])
+pub removed_here : (told now : Option Contents) (m : Contents) (h : ℕ) (content : List ℕ) → told ≡ Some m → content_of h m ≡ Some content → IfSome told AreContents → Removed told now h → IsCleared now m (h ∷ [])
 removed_here told now m h content is held all gone =
     let a : AreContents m = rw is at all in
     let one : IfSome (content_of h m) (λ c. now ≡ Some (without h m)) = rw is at gone in

@@ -21,14 +21,15 @@ leaf_ends k v pairs back is none =
     let nil : past_key k (sought k pairs) ≡ [] = body_none (past_key k (sought k pairs)) (sym is ∙ none) in
     sym (key_of_pairs (insert k v pairs)) ∙ ap key_at_end (s.set ∙ ap (λ (t : List Entry). s.before ++ (new_entry k v ∷ t)) nil) ∙ key_added s.before (new_entry k v)
 
-parts_none : (r : List Part) → body (map child_entry (map child_of r)) ≡ [] → pairs_of r ≡ []
-parts_none [] is = refl
-parts_none (x ∷ r) is =
+-- children without a byte are none
+pub parts_nil : (r : List Part) → body (map child_entry (map child_of r)) ≡ [] → r ≡ []
+parts_nil [] is = refl
+parts_nil (x ∷ r) is =
     let nil : child_entry (child_of x) ∷ map child_entry (map child_of r) ≡ [] = body_none (map child_entry (map child_of (x ∷ r))) is in
     absurd (cc (nil))
 
 -- above a part it is where it is the last one below, and no bytes stand behind the part's entry
 pub part_ends : (l r : List Part) (all below : List Pair) (back : List ℕ) → all ≡ pairs_of l ++ (below ++ pairs_of r) → 0 < length below → back ≡ body (map child_entry (map child_of r)) → back ≡ [] → greatest all ≡ greatest below
 part_ends l r all below back is some back_is none =
-    let nil : pairs_of r ≡ [] = parts_none r (sym back_is ∙ none) in
+    let nil : pairs_of r ≡ [] = ap (λ (x : List Part). pairs_of x) (parts_nil r (sym back_is ∙ none)) in
     ap greatest (is ∙ ap (λ (x : List Pair). pairs_of l ++ (below ++ x)) nil ∙ ap (λ (x : List Pair). pairs_of l ++ x) (append-nil below)) ∙ greatest_append (pairs_of l) below some

@@ -25,10 +25,10 @@ pub record Splits (k v : List ℕ) (pairs : List Pair) : Type 0 where
 inserted : (k v : List ℕ) (p : Pair) (ps : List Pair) (o : Ordering) → order k p.key ≡ o → insert k v (p ∷ ps) ≡ match_ordering o (record { key = k; value = v } ∷ p ∷ ps) (record { key = k; value = v } ∷ ps) (p ∷ insert k v ps)
 inserted k v p ps o is = ap (λ (x : Ordering). match_ordering x (record { key = k; value = v } ∷ p ∷ ps) (record { key = k; value = v } ∷ ps) (p ∷ insert k v ps)) is
 
-sought_is : (k : List ℕ) (p : Pair) (ps : List Pair) (o : Ordering) → order k p.key ≡ o → sought k (p ∷ ps) ≡ cond (match_ordering o true true false || false) (pair_entry p ∷ map pair_entry ps) (sought k ps)
+pub sought_is : (k : List ℕ) (p : Pair) (ps : List Pair) (o : Ordering) → order k p.key ≡ o → sought k (p ∷ ps) ≡ cond (match_ordering o true true false || false) (pair_entry p ∷ map pair_entry ps) (sought k ps)
 sought_is k p ps o is = ap (λ (x : Ordering). cond (match_ordering x true true false || false) (pair_entry p ∷ map pair_entry ps) (sought k ps)) is
 
-past_is : (k : List ℕ) (p : Pair) (ps : List Pair) (o : Ordering) → order k p.key ≡ o → past_key k (pair_entry p ∷ map pair_entry ps) ≡ match_ordering o (pair_entry p ∷ map pair_entry ps) (map pair_entry ps) (pair_entry p ∷ map pair_entry ps)
+pub past_is : (k : List ℕ) (p : Pair) (ps : List Pair) (o : Ordering) → order k p.key ≡ o → past_key k (pair_entry p ∷ map pair_entry ps) ≡ match_ordering o (pair_entry p ∷ map pair_entry ps) (map pair_entry ps) (pair_entry p ∷ map pair_entry ps)
 past_is k p ps o is = ap (λ (x : Ordering). match_ordering x (pair_entry p ∷ map pair_entry ps) (map pair_entry ps) (pair_entry p ∷ map pair_entry ps)) is
 
 splits_step : (k v : List ℕ) (p : Pair) (ps : List Pair) → Splits k v ps → (o : Ordering) → order k p.key ≡ o → Splits k v (p ∷ ps)

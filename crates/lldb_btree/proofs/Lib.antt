@@ -34,3 +34,12 @@ pub mod Full
 pub mod Past
 pub mod Ends
 pub mod Clearing
+pub mod Deletes
+pub mod Drops
+pub mod Joins
+pub mod Mending
+pub mod Neighbours
+pub mod Putting
+pub mod Taking
+pub mod Lowering
+pub mod Removing

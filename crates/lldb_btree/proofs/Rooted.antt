@@ -1,5 +1,5 @@
 -- What stands after the bytes of a node were stored below another, or as a root.
-use Rattle.std.proofs.Common.{◌≡◌, ⊎_elim, ℕ, suc, ◌+◌, ◌*◌, ◌/◌, ◌^◌, ◌<◌, ◌≤◌, Bool, true, false, List, [], ◌∷◌, ◌++◌, length, take, drop, Option, Some, None, IfSome, refl, sym, ap, ◌∙◌, arith, length-append, append-nil}
+use Rattle.std.proofs.Common.{◌≡◌, ⊎_elim, ℕ, suc, ◌+◌, ◌-◌, ◌*◌, ◌/◌, ◌^◌, ◌<◌, ◌≤◌, Bool, true, false, List, [], ◌∷◌, ◌++◌, length, take, drop, Option, Some, None, IfSome, refl, sym, ap, ◌∙◌, arith, length-append, append-nil}
 use Rattle.std.specs.List.{AllByRecursion}
 use Rattle.std.proofs.lemmas.Bool.{cases_eq}
 use Rattle.lldb_base.specs.Contents.{Contents, content_of, with_content}
@@ -36,13 +36,17 @@ not_dead told h content m is held dead =
     absurd (cc (clash))
 
 -- a node with as many entries, and its bytes
-node_back : (node : Node) (leaf : Bool) (es : List Entry) (bytes : List ℕ) → is_leaf node ≡ leaf → entries node ≡ es → AreNode leaf es bytes → bytes ≡ spelling node
+pub node_back : (node : Node) (leaf : Bool) (es : List Entry) (bytes : List ℕ) → is_leaf node ≡ leaf → entries node ≡ es → AreNode leaf es bytes → bytes ≡ spelling node
 node_back node leaf es bytes l e a = a.is ∙ ap (λ (x : Bool). mark x ∷ length es ∷ body es) (sym l) ∙ ap (λ (x : List Entry). mark (is_leaf node) ∷ length x ∷ body x) (sym e) ∙ sym (spelled_by node)
 
--- a node of 33 entries cut in two
+-- a node with too many entries cut in two
 pub record Halved (m : Contents) (d : ℕ) (node : Node) (pairs : List Pair) (under : List ℕ) (front back : List ℕ) : Type 0 where
-  pub cut : Cut m d 16 node pairs under
-  pub many : count node ≡ 33
+  pub half : ℕ
+  pub cut : Cut m d half node pairs under
+  pub low : 16 ≤ half
+  pub high : half ≤ 32
+  pub low_right : 16 ≤ count node - half
+  pub high_right : count node - half ≤ 32
   pub front_is : front ≡ spelling cut.left
   pub back_is : back ≡ spelling cut.right
   pub left_node : AreNode (is_leaf node) (entries cut.left) front
@@ -59,39 +63,41 @@ FrontHalf bytes front = (leaf : Bool) (es : List Entry) → AreNode leaf es byte
 abbrev pub BackHalf : List ℕ → List ℕ → Type 0
 BackHalf bytes back = (leaf : Bool) (es : List Entry) → AreNode leaf es bytes → AreNode leaf (drop (length es / 2) es) back
 
-pub halved : (m : Contents) (d : ℕ) (node : Node) (pairs : List Pair) (under bytes front back : List ℕ) → IsOver m d node pairs under → AllByRecursion FitsPair pairs → bytes ≡ spelling node → 33 ≤ count node → count node ≤ 33 → FrontHalf bytes front → BackHalf bytes back → Halved m d node pairs under front back
+pub halved : (m : Contents) (d : ℕ) (node : Node) (pairs : List Pair) (under bytes front back : List ℕ) → IsOver m d node pairs under → AllByRecursion FitsPair pairs → bytes ≡ spelling node → 33 ≤ count node → count node ≤ 64 → FrontHalf bytes front → BackHalf bytes back → Halved m d node pairs under front back
 halved m d node pairs under bytes front back over fits is low high fh bh =
-    let n : count node ≡ 33 = omega (arith, low, high) in
-    let half : length (entries node) / 2 ≡ 16 = ap (λ (x : ℕ). x / 2) (entries_count node ∙ n) in
-    let c : Cut m d 16 node pairs under = over_cut m d 16 node pairs under over (omega (arith, n)) in
+    let n : ℕ = length (entries node) / 2 in
+    let many : length (entries node) ≡ count node = entries_count node in
+    let c : Cut m d n node pairs under = over_cut m d n node pairs under over (omega (arith, many)) in
     let whole : AreNode (is_leaf node) (entries node) bytes = are_node node bytes (over_fits m d node pairs under over fits) is in
-    let first : AreNode (is_leaf node) (take (length (entries node) / 2) (entries node)) front = fh (is_leaf node) (entries node) whole in
-    let f : AreNode (is_leaf node) (take 16 (entries node)) front = rw half at first in
-    let second : AreNode (is_leaf node) (drop (length (entries node) / 2) (entries node)) back = bh (is_leaf node) (entries node) whole in
-    let b : AreNode (is_leaf node) (drop 16 (entries node)) back = rw half at second in
+    let f : AreNode (is_leaf node) (take n (entries node)) front = fh (is_leaf node) (entries node) whole in
+    let b : AreNode (is_leaf node) (drop n (entries node)) back = bh (is_leaf node) (entries node) whole in
     let both : AllByRecursion FitsPair (c.ps ++ c.qs) = rw c.pairs_are at fits in
-    let front_is : front ≡ spelling c.left = node_back c.left (is_leaf node) (take 16 (entries node)) front c.left_leaf c.left_entries f in
-    let back_is : back ≡ spelling c.right = node_back c.right (is_leaf node) (drop 16 (entries node)) back c.right_leaf c.right_entries b in
+    let front_is : front ≡ spelling c.left = node_back c.left (is_leaf node) (take n (entries node)) front c.left_leaf c.left_entries f in
+    let back_is : back ≡ spelling c.right = node_back c.right (is_leaf node) (drop n (entries node)) back c.right_leaf c.right_entries b in
     let left_fits : Fits c.left = over_fits m d c.left c.ps c.us c.over_left (all_left FitsPair c.ps c.qs both) in
     let right_fits : Fits c.right = over_fits m d c.right c.qs c.ts c.over_right (all_right FitsPair c.ps c.qs both) in
     record {
+      half = n;
       cut = c;
-      many = n;
+      low = omega (arith, many, low);
+      high = omega (arith, many, high);
+      low_right = omega (arith, many, low);
+      high_right = omega (arith, many, high);
       front_is = front_is;
       back_is = back_is;
       left_node = rw (sym c.left_entries) at f;
       right_node = rw (sym c.right_entries) at b;
-      left_some = omega (arith, entries_count c.left, c.left_count);
-      right_some = omega (arith, entries_count c.right, c.right_count, n);
-      left_short = spelled_short c.left front left_fits (omega (arith, c.left_count)) front_is;
-      right_short = spelled_short c.right back right_fits (omega (arith, c.right_count, n)) back_is;
+      left_some = omega (arith, entries_count c.left, c.left_count, many, low);
+      right_some = omega (arith, entries_count c.right, c.right_count, many, low);
+      left_short = spelled_short c.left front left_fits (omega (arith, c.left_count, many, high)) front_is;
+      right_short = spelled_short c.right back right_fits (omega (arith, c.right_count, many, high)) back_is;
     }
 
 -- the entries that two children were given
 abbrev pub TwoOf : List ℕ → ℕ → List ℕ → ℕ → List ℕ → Type 0
 TwoOf front h back more out = (leaf : Bool) (es fs : List Entry) → AreNode leaf es front → 0 < length es → AreNode leaf fs back → 0 < length fs → out ≡ body (entry_of es h ∷ entry_of fs more ∷ [])
 
-pub one_child : (told now : Option Contents) (m : Contents) (d h : ℕ) (bytes : List ℕ) (pairs : List Pair) (under out : List ℕ) (s : CanStore told m d h bytes pairs under) → count s.node ≤ 32 → IfSome told (λ map. IfSome (content_of h map) (λ _. now ≡ Some (with_content h bytes map))) → (k : List ℕ) (ends : Bool) → (ends ≡ true → k ≡ greatest pairs) → ((leaf : Bool) (es : List Entry) → AreNode leaf es bytes → 0 < length es → (ends ≡ true → k ≡ key_at_end es) → out ≡ entry_bytes (entry_of es h)) → IsStored now m d (h ∷ under) pairs 1 out
+pub one_child : (told now : Option Contents) (m : Contents) (d h : ℕ) (bytes : List ℕ) (pairs : List Pair) (under out : List ℕ) (s : CanStore told m d h bytes pairs under) → count s.node ≤ 32 → IfSome told (λ map. IfSome (content_of h map) (λ _. now ≡ Some (with_content h bytes map))) → (k : List ℕ) (ends : Bool) → (ends ≡ true → k ≡ greatest pairs) → ((leaf : Bool) (es : List Entry) → AreNode leaf es bytes → 0 < length es → (ends ≡ true → k ≡ key_at_end es) → out ≡ entry_bytes (entry_of es h)) → IsStored now m d 0 (h ∷ under) pairs 1 out
 one_child told now m d h bytes pairs under out s few put k ends known pushed =
     let a : AreNode (is_leaf s.node) (entries s.node) bytes = are_node s.node bytes (over_fits m d s.node pairs under s.over s.fits) s.spelled in
     stored_one told now m d h bytes pairs under 1 out s few (was_put told now h bytes s.live.0 m s.is s.live.1 put) refl (pushed (is_leaf s.node) (entries s.node) a (omega (arith, entries_count s.node, s.enough)) (λ on. known on ∙ sym (last_key_is m d s.node pairs under s.over)))
@@ -118,13 +124,13 @@ root_count told old m d h before bytes pairs n c whole = (whole (is_leaf c.node)
 pub store_halved : (told : Option Contents) (m : Contents) (d h : ℕ) (bytes front back : List ℕ) (pairs : List Pair) (under : List ℕ) (s : CanStore told m d h bytes pairs under) → 33 ≤ count s.node → FrontHalf bytes front → BackHalf bytes back → Halved m d s.node pairs under front back
 store_halved told m d h bytes front back pairs under s low fh bh = halved m d s.node pairs under bytes front back s.over s.fits s.spelled low s.few fh bh
 
-pub two_stored : (told mid now : Option Contents) (m : Contents) (d h more : ℕ) (bytes front back : List ℕ) (pairs : List Pair) (under out : List ℕ) (s : CanStore told m d h bytes pairs under) → 33 ≤ count s.node → FrontHalf bytes front → BackHalf bytes back → IfSome told (λ map. IfSome (content_of h map) (λ _. mid ≡ Some (with_content h front map))) → more < 2 ^ 64 → IfSome mid (λ map. content_of more map ≡ None) → IfSome mid (λ map. now ≡ Some (with_content more back map)) → TwoOf front h back more out → IsStored now m d (h ∷ under) pairs 2 out
+pub two_stored : (told mid now : Option Contents) (m : Contents) (d h more : ℕ) (bytes front back : List ℕ) (pairs : List Pair) (under out : List ℕ) (s : CanStore told m d h bytes pairs under) → 33 ≤ count s.node → FrontHalf bytes front → BackHalf bytes back → IfSome told (λ map. IfSome (content_of h map) (λ _. mid ≡ Some (with_content h front map))) → more < 2 ^ 64 → IfSome mid (λ map. content_of more map ≡ None) → IfSome mid (λ map. now ≡ Some (with_content more back map)) → TwoOf front h back more out → IsStored now m d 1 (h ∷ under) pairs 2 out
 two_stored told mid now m d h more bytes front back pairs under out s low fh bh put range fresh made two =
     let v : Halved m d s.node pairs under front back = store_halved told m d h bytes front back pairs under s low fh bh in
     let mid_is : mid ≡ Some (with_content h front m) = was_put told mid h front s.live.0 m s.is s.live.1 put in
     let dead : content_of more (with_content h front m) ≡ None = rw mid_is at fresh in
     let now_is : now ≡ Some (with_content more back (with_content h front m)) = rw mid_is at made in
-    stored_two told now m d 16 h more bytes front back pairs under 2 out s v.cut (omega arith) (omega arith) (omega (arith, v.many)) (omega (arith, v.many)) v.front_is v.back_is range dead now_is refl (two (is_leaf s.node) (entries v.cut.left) (entries v.cut.right) v.left_node v.left_some v.right_node v.right_some)
+    stored_two told now m d v.half h more bytes front back pairs under 2 out s v.cut v.low v.high v.low_right v.high_right v.front_is v.back_is range dead now_is refl (two (is_leaf s.node) (entries v.cut.left) (entries v.cut.right) v.left_node v.left_some v.right_node v.right_some)
 
 pub two_unsaved : (told : Option Contents) (m : Contents) (d h : ℕ) (bytes front back : List ℕ) (pairs : List Pair) (under : List ℕ) (s : CanStore told m d h bytes pairs under) → 33 ≤ count s.node → FrontHalf bytes front → BackHalf bytes back → (length front ≤ 35810 → MayBeDead h told) → ⊥
 two_unsaved told m d h bytes front back pairs under s low fh bh dead = not_dead told h s.live.0 m s.is s.live.1 (dead (store_halved told m d h bytes front back pairs under s low fh bh).left_short)
@@ -138,6 +144,17 @@ two_unmade told mid m d h bytes front back pairs under s low fh bh put none =
 -- two halves have entries
 abbrev pub NoTwo : List ℕ → List ℕ → Type 0
 NoTwo front back = (leaf : Bool) (es fs : List Entry) → AreNode leaf es front → 0 < length es → AreNode leaf fs back → 0 < length fs → ⊥
+
+-- what stands with no handle more stands with one more at most
+pub stored_more : (now : Option Contents) (m : Contents) (d : ℕ) (before : List ℕ) (pairs : List Pair) (many : ℕ) (out : List ℕ) → IsStored now m d 0 before pairs many out → IsStored now m d 1 before pairs many out
+stored_more now m d before pairs many out s = record {
+  new = s.new;
+  told = s.told;
+  children = s.children;
+  becomes = record { parts = s.becomes.parts; each = s.becomes.each; named = s.becomes.named; all = s.becomes.all; edits = s.becomes.edits; grows = omega (arith, s.becomes.grows) };
+  counted = s.counted;
+  spelled = s.spelled;
+}
 
 pub two_unread : (m : Contents) (d : ℕ) (node : Node) (pairs : List Pair) (under front back : List ℕ) → Halved m d node pairs under front back → NoTwo front back → ⊥
 two_unread m d node pairs under front back v none = none (is_leaf node) (entries v.cut.left) (entries v.cut.right) v.left_node v.left_some v.right_node v.right_some
@@ -170,9 +187,9 @@ pub root_unread : (told : Option Contents) (old m : Contents) (d h : ℕ) (befor
 root_unread told old m d h before bytes pairs c low none = none (is_leaf c.node) (entries c.node) (are_node c.node bytes (over_fits m d c.node pairs c.lifts.under c.lifts.over c.sorted.fits) c.spelled) (omega (arith, entries_count c.node, low))
 
 pub root_halved : (told : Option Contents) (old m : Contents) (d h : ℕ) (before bytes front back : List ℕ) (pairs : List Pair) (c : CanRoot told old m d h before bytes pairs) → 33 ≤ count c.node → FrontHalf bytes front → BackHalf bytes back → Halved m d c.node pairs c.lifts.under front back
-root_halved told old m d h before bytes front back pairs c low fh bh = halved m d c.node pairs c.lifts.under bytes front back c.lifts.over c.sorted.fits c.spelled low c.few fh bh
+root_halved told old m d h before bytes front back pairs c low fh bh = halved m d c.node pairs c.lifts.under bytes front back c.lifts.over c.sorted.fits c.spelled low (omega (arith, c.few)) fh bh
 
-handle_live : (m : Contents) (h : ℕ) (content : List ℕ) (us : List ℕ) → content_of h m ≡ Some content → Live m us → Live m (h ∷ us)
+pub handle_live : (m : Contents) (h : ℕ) (content : List ℕ) (us : List ℕ) → content_of h m ≡ Some content → Live m us → Live m (h ∷ us)
 handle_live m h content us held live n some none = ⊎_elim
     (λ same. let clash : Some content ≡ None = sym held ∙ ap (λ (k : ℕ). content_of k m) (sym same) ∙ none in absurd (cc (clash)))
     (λ ne. live n (omega (arith, some, times_there n h us ne)) none)
@@ -199,7 +216,7 @@ held_after m h a b content front back held dead dead_b =
 -- a root that was cut in two, below a new inner node
 grown : (now : Option Contents) (old m : Contents) (d h a b : ℕ) (before under : List ℕ) (content : List ℕ) (node : Node) (pairs : List Pair) (front back root : List ℕ) (v : Halved m d node pairs under front back) → Edits old m before (h ∷ under) → IsOver m d node pairs under → length under + 1 ≤ length before + d → content_of h m ≡ Some content → h < 2 ^ 64 → a < 2 ^ 64 → b < 2 ^ 64 → content_of a m ≡ None → content_of b (with_content a (spelling v.cut.left) m) ≡ None → root ≡ spelling (Inner (child_of (part_at a v.cut.ps v.cut.us) ∷ child_of (part_at b v.cut.qs v.cut.ts) ∷ [])) → now ≡ Some (with_content h root (with_content b (spelling v.cut.right) (with_content a (spelling v.cut.left) m))) → IsSorted pairs → HoldsTree now old h (d + 1) before pairs
 grown now old m d h a b before under content node pairs front back root v e over grows held low low_a low_b dead_a dead_b root_is now_is sorted =
-    let c : Cut m d 16 node pairs under = v.cut in
+    let c : Cut m d v.half node pairs under = v.cut in
     let left : List ℕ = spelling c.left in
     let right : List ℕ = spelling c.right in
     let m1 : Contents = with_content a left m in
@@ -223,11 +240,11 @@ grown now old m d h a b before under content node pairs front back root v e over
     let h_all : times h ((a ∷ c.us) ++ ((b ∷ c.ts) ++ [])) ≡ 0 = apart_once h ((a ∷ c.us) ++ ((b ∷ c.ts) ++ [])) (e3.once h) in
     let h_left : times h (a ∷ c.us) ≡ 0 = omega (arith, h_all, times_append h (a ∷ c.us) ((b ∷ c.ts) ++ [])) in
     let h_right : times h (b ∷ c.ts) ≡ 0 = omega (arith, h_all, times_append h (a ∷ c.us) ((b ∷ c.ts) ++ []), times_append h (b ∷ c.ts) []) in
-    let left1 : IsNode (IsOver m1 d) m1 16 (part_at a c.ps c.us) = node_put m d 16 a c.left c.ps c.us c.over_left a_us low_a (omega (arith, c.left_count)) (omega (arith, c.left_count)) in
+    let left1 : IsNode (IsOver m1 d) m1 16 (part_at a c.ps c.us) = node_put m d 16 a c.left c.ps c.us c.over_left a_us low_a (omega (arith, c.left_count, v.low)) (omega (arith, c.left_count, v.high)) in
     let left2 : IsNode (IsOver m2 d) m2 16 (part_at a c.ps c.us) = node_moved m1 m2 d 16 (over_moved m1 m2 d) (part_at a c.ps c.us) left1 (put_agrees m1 b right (a ∷ c.us) b_left) in
     let left3 : IsNode (IsOver m3 d) m3 16 (part_at a c.ps c.us) = node_moved m2 m3 d 16 (over_moved m2 m3 d) (part_at a c.ps c.us) left2 (put_agrees m2 h (spelling top) (a ∷ c.us) h_left) in
     let right1 : IsOver m1 d c.right c.qs c.ts = over_moved m m1 d c.right c.qs c.ts c.over_right (put_agrees m a left c.ts a_ts) in
-    let right2 : IsNode (IsOver m2 d) m2 16 (part_at b c.qs c.ts) = node_put m1 d 16 b c.right c.qs c.ts right1 b_ts low_b (omega (arith, c.right_count, v.many)) (omega (arith, c.right_count, v.many)) in
+    let right2 : IsNode (IsOver m2 d) m2 16 (part_at b c.qs c.ts) = node_put m1 d 16 b c.right c.qs c.ts right1 b_ts low_b (omega (arith, c.right_count, v.low_right)) (omega (arith, c.right_count, v.high_right)) in
     let right3 : IsNode (IsOver m3 d) m3 16 (part_at b c.qs c.ts) = node_moved m2 m3 d 16 (over_moved m2 m3 d) (part_at b c.qs c.ts) right2 (put_agrees m2 h (spelling top) (b ∷ c.ts) h_right) in
     record {
       new = m3;

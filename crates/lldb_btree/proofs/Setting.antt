@@ -64,11 +64,11 @@ can_store now m d handle p pairs bytes n here e fits = record {
   live = (spelling n.node, ap (λ (h : ℕ). content_of h e.new) (sym here) ∙ e.lifts.stays ∙ n.held);
   low = omega (arith, here, n.handle);
   enough = e.enough;
-  few = e.few;
+  few = omega (arith, e.few);
   fits = fits;
 }
 
-one_live : (m : Contents) (h : ℕ) (c : List ℕ) → content_of h m ≡ Some c → Live m (h ∷ [])
+pub one_live : (m : Contents) (h : ℕ) (c : List ℕ) → content_of h m ≡ Some c → Live m (h ∷ [])
 one_live m h c held n some none = ⊎_elim
     (λ same. let clash : Some c ≡ None = sym held ∙ ap (λ (k : ℕ). content_of k m) (sym same) ∙ none in absurd (cc))
     (λ ne. absurd (omega (arith, some, times_there n h [] ne)))

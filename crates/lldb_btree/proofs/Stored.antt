@@ -48,7 +48,7 @@ part_entry m d h node pairs under o = ap (λ (k : List ℕ). entry_at k h) (last
   entry_at k h = record { key = k; tail = to_be_bytes w64 h }
 
 -- stored as it is
-pub stored_one : (told now : Option Contents) (m : Contents) (d h : ℕ) (bytes : List ℕ) (pairs : List Pair) (under : List ℕ) (many : ℕ) (out : List ℕ) → (s : CanStore told m d h bytes pairs under) → count s.node ≤ 32 → now ≡ Some (with_content h bytes m) → many ≡ 1 → out ≡ entry_bytes (entry_of (entries s.node) h) → IsStored now m d (h ∷ under) pairs many out
+pub stored_one : (told now : Option Contents) (m : Contents) (d h : ℕ) (bytes : List ℕ) (pairs : List Pair) (under : List ℕ) (many : ℕ) (out : List ℕ) → (s : CanStore told m d h bytes pairs under) → count s.node ≤ 32 → now ≡ Some (with_content h bytes m) → many ≡ 1 → out ≡ entry_bytes (entry_of (entries s.node) h) → IsStored now m d 0 (h ∷ under) pairs many out
 stored_one told now m d h bytes pairs under many out s few is one entry =
     let apart : times h under ≡ 0 = apart_once h under (s.once h) in
     record {
@@ -79,7 +79,7 @@ dead_apart m h us live dead zero e = e
 dead_apart m h us live dead (suc k) e = absurd (live h (omega (arith, e)) dead)
 
 -- stored as two, the second at a new handle
-pub stored_two : (told now : Option Contents) (m : Contents) (d half h more : ℕ) (bytes front back : List ℕ) (pairs : List Pair) (under : List ℕ) (many : ℕ) (out : List ℕ) → (s : CanStore told m d h bytes pairs under) → (c : Cut m d half s.node pairs under) → 16 ≤ half → half ≤ 32 → 16 ≤ count s.node - half → count s.node - half ≤ 32 → front ≡ spelling c.left → back ≡ spelling c.right → more < 2 ^ 64 → content_of more (with_content h front m) ≡ None → now ≡ Some (with_content more back (with_content h front m)) → many ≡ 2 → out ≡ body (entry_of (entries c.left) h ∷ entry_of (entries c.right) more ∷ []) → IsStored now m d (h ∷ under) pairs many out
+pub stored_two : (told now : Option Contents) (m : Contents) (d half h more : ℕ) (bytes front back : List ℕ) (pairs : List Pair) (under : List ℕ) (many : ℕ) (out : List ℕ) → (s : CanStore told m d h bytes pairs under) → (c : Cut m d half s.node pairs under) → 16 ≤ half → half ≤ 32 → 16 ≤ count s.node - half → count s.node - half ≤ 32 → front ≡ spelling c.left → back ≡ spelling c.right → more < 2 ^ 64 → content_of more (with_content h front m) ≡ None → now ≡ Some (with_content more back (with_content h front m)) → many ≡ 2 → out ≡ body (entry_of (entries c.left) h ∷ entry_of (entries c.right) more ∷ []) → IsStored now m d 1 (h ∷ under) pairs many out
 stored_two told now m d half h more bytes front back pairs under many out s c low high low_right high_right front_is back_is range fresh is_put count_is entry =
     let dead : content_of more (with_content h (spelling c.left) m) ≡ None = ap (λ (b : List ℕ). content_of more (with_content h b m)) (sym front_is) ∙ fresh in
     let is : now ≡ Some (with_content more (spelling c.right) (with_content h (spelling c.left) m)) = is_put ∙ ap (λ (b : List ℕ). Some (with_content more back (with_content h b m))) front_is ∙ ap (λ (b : List ℕ). Some (with_content more b (with_content h (spelling c.left) m))) back_is in

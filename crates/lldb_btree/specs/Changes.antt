@@ -42,7 +42,7 @@ pub record IsEdited (now : Option Contents) (m : Contents) (d least : ℕ) (p : 
   pub enough : least ≤ count node
   pub few : count node ≤ 33
 
--- the bytes are those of a node in memory that can be stored: all below it stands, and its own handle is live
+-- the bytes are those of a node in memory that can be stored as one or as two: all below it stands, and its own handle is live
 pub record CanStore (told : Option Contents) (m : Contents) (d handle : ℕ) (bytes : List ℕ) (pairs : List Pair) (under : List ℕ) : Type 0 where
   pub is : told ≡ Some m
   pub node : Node
@@ -52,15 +52,15 @@ pub record CanStore (told : Option Contents) (m : Contents) (d handle : ℕ) (by
   pub live : (content : List ℕ) × (content_of handle m ≡ Some content)
   pub low : handle < 2 ^ 64
   pub enough : 16 ≤ count node
-  pub few : count node ≤ 33
+  pub few : count node ≤ 64
   pub fits : AllByRecursion FitsPair pairs
 
--- handles have become children that stand, with one handle more at most; so many they are, with these bytes as entries
-pub record IsStored (now : Option Contents) (m : Contents) (d : ℕ) (before : List ℕ) (pairs : List Pair) (many : ℕ) (bytes : List ℕ) : Type 0 where
+-- handles have become children that stand, with so many handles more at most; so many children, with these bytes as entries
+pub record IsStored (now : Option Contents) (m : Contents) (d more : ℕ) (before : List ℕ) (pairs : List Pair) (many : ℕ) (bytes : List ℕ) : Type 0 where
   pub new : Contents
   pub told : now ≡ Some new
   pub children : List Child
-  pub becomes : Becomes m new d 1 before children pairs
+  pub becomes : Becomes m new d more before children pairs
   pub counted : many ≡ length children
   pub spelled : bytes ≡ body (map child_entry children)
 

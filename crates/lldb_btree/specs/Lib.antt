@@ -9,3 +9,4 @@ pub mod Frames
 pub mod Laws
 pub mod Changes
 pub mod Splicing
+pub mod Removal

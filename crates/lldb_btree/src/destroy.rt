@@ -15,7 +15,7 @@ use ql_edge::Bytes;
 use std::alloc::Global;
 
 /// The handle of the first child, and what follows its entry.
-fn first_child(bytes: &[u8]) -> Option<(u64, &[u8])>
+pub(crate) fn first_child(bytes: &[u8]) -> Option<(u64, &[u8])>
     ensures { (c : child.Child) (more : List ℕ) → FitsChild c → bytes.now
         ≡ entry_bytes (child_entry c) ++ more → IsSomeAnd result
         (λ r. (r.0 ≡ c.handle) × (r.1.now ≡ more)) }

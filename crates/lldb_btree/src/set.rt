@@ -77,7 +77,7 @@ fn is_last(ends: bool, back: &[u8]) -> bool
 }
 
 /// What follows the first of so many entries where it has the key, and how many entries a pair with the key adds.
-fn past_key<'a>(left: usize, bytes: &'a [u8], key: &[u8]) -> Option<(&'a [u8], usize)>
+pub(crate) fn past_key<'a>(left: usize, bytes: &'a [u8], key: &[u8]) -> Option<(&'a [u8], usize)>
     ensures most { IfSome result (λ r. r.1 ≤ 1) }
     ensures past { (es : List Entry) → AllByRecursion (IsEntry true) es → length es ≡ left
         → bytes.now ≡ body es → IsSomeAnd result (λ r. (r.0.now ≡ body (past_key key.now es))
@@ -120,7 +120,11 @@ fn set_in_leaf(alloc: Global, count: usize, bytes: &[u8], put: &Put) -> Result<C
 }
 
 /// The handle of the child where a search goes on, with the bytes before its entry and behind it.
-fn way<'a>(bytes: &'a [u8], count: usize, from: &Bound) -> Option<(&'a [u8], u64, &'a [u8])>
+pub(crate) fn way<'a>(
+    bytes: &'a [u8],
+    count: usize,
+    from: &Bound,
+) -> Option<(&'a [u8], u64, &'a [u8])>
     ensures { (children : List child.Child) → AllByRecursion FitsChild children → 0
         < length children → length children ≡ count → bytes.now ≡ body (map child_entry children)
         → IsSomeAnd result (λ r. IsWay (is_ahead from.now) children r.0.now r.1 r.2.now) }

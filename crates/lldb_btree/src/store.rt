@@ -31,7 +31,7 @@ pub(crate) struct Stored {
 }
 
 /// Gives a handle the bytes of a node.
-fn save<H: Heap>(heap: &mut H, handle: u64, node: &[u8]) -> Result<(), Trouble>
+pub(crate) fn save<H: Heap>(heap: &mut H, handle: u64, node: &[u8]) -> Result<(), Trouble>
     requires ready { IsTrue (H.is_ready heap.old) }
     requires depth { 1 ≤ length (H.saved heap.old) }
     ensures put { OnOk result (IfSome (H.map_of heap.old) (λ map. IfSome (content_of handle map)
@@ -77,7 +77,7 @@ fn make<H: Heap>(heap: &mut H, node: &[u8]) -> Result<u64, Trouble>
     heap.create(node)
 }
 
-/// Stores the bytes of a node with one entry too many as two nodes, the first of them at its handle.
+/// Stores the bytes of a node with too many entries as two nodes, the first of them at its handle.
 fn store_two<H: Heap>(
     alloc: Global,
     heap: &mut H,
@@ -89,7 +89,7 @@ fn store_two<H: Heap>(
     ensures few { IfOk result (λ s. (1 ≤ s.count) × (s.count ≤ 2)) }
     ensures stored { (m : Contents) (d : ℕ) (pairs : List pair.Pair) (under : List ℕ) → (c : CanStore
         (H.map_of heap.old) m d handle node.now pairs under) → 33 ≤ count c.node → IfOk result
-        (λ s. IsStored (H.map_of heap.new) m d (handle ∷ under) pairs s.count s.entries) }
+        (λ s. IsStored (H.map_of heap.new) m d 1 (handle ∷ under) pairs s.count s.entries) }
     ensures ready { OnOk result (H.is_ready heap.new ≡ true) }
     ensures refuses { Refuses (IsFullFor (H.limit_of heap.old) (H.size_of heap.new))
         ((m : Contents) (d : ℕ) (pairs : List pair.Pair) (under : List ℕ) → (c : CanStore
@@ -110,7 +110,7 @@ fn store_two<H: Heap>(
 }
 
 /// Stores the bytes of a node at its handle. `ends` says that a key is the last one of the node.
-fn store_one<H: Heap>(
+pub(crate) fn store_one<H: Heap>(
     alloc: Global,
     heap: &mut H,
     handle: u64,
@@ -121,11 +121,11 @@ fn store_one<H: Heap>(
     requires ready { IsTrue (H.is_ready heap.old) }
     requires depth { 1 ≤ length (H.saved heap.old) }
     requires key { length key.now ≤ 1100 }
-    ensures few { IfOk result (λ s. (1 ≤ s.count) × (s.count ≤ 2)) }
+    ensures one { IfOk result (λ s. s.count ≡ 1) }
     ensures stored { (m : Contents) (d : ℕ) (pairs : List pair.Pair) (under : List ℕ) → (c : CanStore
         (H.map_of heap.old) m d handle node.now pairs under) → count c.node ≤ 32
         → (ends ≡ true → key.now ≡ greatest pairs) → IfOk result
-        (λ s. IsStored (H.map_of heap.new) m d (handle ∷ under) pairs s.count s.entries) }
+        (λ s. IsStored (H.map_of heap.new) m d 0 (handle ∷ under) pairs s.count s.entries) }
     ensures ready { OnOk result (H.is_ready heap.new ≡ true) }
     ensures refuses { Refuses (IsFullFor (H.limit_of heap.old) (H.size_of heap.new))
         ((m : Contents) (d : ℕ) (pairs : List pair.Pair) (under : List ℕ) → (c : CanStore
@@ -159,7 +159,7 @@ pub(crate) fn store<H: Heap>(
     ensures stored { (m : Contents) (d : ℕ) (pairs : List pair.Pair) (under : List ℕ) → CanStore
         (H.map_of heap.old) m d handle node.now pairs under
         → (ends ≡ true → key.now ≡ greatest pairs) → IfOk result
-        (λ s. IsStored (H.map_of heap.new) m d (handle ∷ under) pairs s.count s.entries) }
+        (λ s. IsStored (H.map_of heap.new) m d 1 (handle ∷ under) pairs s.count s.entries) }
     ensures ready { OnOk result (H.is_ready heap.new ≡ true) }
     ensures refuses { Refuses (IsFullFor (H.limit_of heap.old) (H.size_of heap.new))
         ((m : Contents) (d : ℕ) (pairs : List pair.Pair) (under : List ℕ) → CanStore

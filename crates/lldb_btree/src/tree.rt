@@ -5,11 +5,14 @@ ghost use Rattle.lldb_base.specs.Heaps.{IsFull, most_added};
 ghost use Rattle.lldb_base.specs.Trouble.{IsCausedTrouble, Refuses};
 ghost use Rattle.lldb_btree.specs.Frames.{KeepsContents, KeepsLevels, UnlessYes};
 ghost use Rattle.lldb_btree.specs.Pairs.{find, insert, value_in, IsFound};
+ghost use Rattle.lldb_btree.specs.Removal.{IsRemoved};
 ghost use Rattle.lldb_btree.specs.Splicing.{AddsNodes, IsFullFor};
 ghost use Rattle.lldb_btree.specs.Trees.{IsTree, IsTold, MayBeNoTree, HoldsTree, IsCleared};
 ghost use Rattle.lldb_btree.specs.declared.node.Pair as pair;
 
 use crate::destroy::clear_node;
+use crate::lower::lower_root;
+use crate::remove::{Wanted, remove_below};
 use crate::set::{Put, set_below};
 use crate::store::save_root;
 use crate::walk::{LEVELS, first_of_tree, levels_under};
@@ -127,6 +130,41 @@ impl Tree {
         let put = Put::new(alloc, key, value)?;
         let root = set_below(alloc, heap, self.handle, LEVELS, &put)?;
         save_root(alloc, heap, self.handle, root.node.as_slice())
+    }
+
+    /// Removes a key with its value, and answers false where no pair has it: then nothing has changed. A node with too few
+    /// entries shares with a neighbour or becomes one with it, and a root with one child left gives way to that. After a refusal
+    /// the tree is to be rolled back.
+    pub fn remove<H: Heap>(&self, alloc: Global, heap: &mut H, key: &[u8]) -> Result<bool, Trouble>
+        requires ready { IsTrue (H.is_ready heap.old) }
+        requires depth { 1 ≤ length (H.saved heap.old) }
+        ensures removed { (map : Contents) (levels : ℕ) (pairs : List pair.Pair)
+            (footprint : List ℕ) → H.map_of heap.old ≡ Some map → IsTree map self.now.handle levels
+            pairs footprint → IfOk result (λ had. IsRemoved had (H.map_of heap.new) map
+            self.now.handle levels footprint pairs key.now) }
+        ensures kept { IfOk result (λ had. had ≡ false → KeepsContents H.map_of H.size_of
+            H.most_free H.is_ready heap.old heap.new) }
+        ensures ready { OnOk result (H.is_ready heap.new ≡ true) }
+        ensures refuses { Refuses (IsFullFor (H.limit_of heap.old) (H.size_of heap.new))
+            (MayBeNoTree self.now.handle (H.map_of heap.old)) result }
+        ensures most { AddsNodes 35 (H.size_of heap.old) (H.size_of heap.new) }
+        ensures grows { (levels : ℕ) (pairs : List pair.Pair) (footprint : List ℕ) → IsTold
+            (H.map_of heap.old) self.now.handle levels pairs footprint → AddsNodes (2 * levels)
+            (H.size_of heap.old) (H.size_of heap.new) }
+        ensures reads { (levels : ℕ) (pairs : List pair.Pair) (footprint : List ℕ) → IsTold
+            (H.map_of heap.old) self.now.handle levels pairs footprint → H.reads_of heap.new
+            ≤ H.reads_of heap.old + 2 * levels }
+        ensures frame { KeepsLevels H.saved H.saved_sizes H.limit_of H.is_sound H.told H.left
+            H.fixed heap.old heap.new }
+        ensures cause { IsCausedTrouble result (H.faults heap.old) (H.faults heap.new) }
+    {
+        let wanted = Wanted::new(alloc, key)?;
+        let root = remove_below(alloc, heap, self.handle, LEVELS, &wanted)?;
+        let Some(root) = root else {
+            return Ok(false);
+        };
+        lower_root(alloc, heap, self.handle, root.as_slice())?;
+        Ok(true)
     }
 
     /// Removes the nodes of the tree and nothing else. After a refusal the tree is to be rolled back.

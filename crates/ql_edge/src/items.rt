@@ -1,5 +1,5 @@
 //! Lists that contracts see as their items.
-ghost use Rattle.std.specs.Prelude.{◌≡◌, ◌≤◌, [], ◌∷◌, ◌++◌, ◌==◌, ◌-◌, length, take, slice_get, IfOk, OnOk, OnErr};
+ghost use Rattle.std.specs.Prelude.{◌≡◌, ◌≤◌, [], ◌∷◌, ◌++◌, ◌==◌, ◌-◌, length, take, insert, slice_get, IfOk, OnOk, OnErr};
 ghost use Rattle.std.specs.Option.{option_copied};
 ghost use Rattle.ql_edge.specs.Disk.{put};
 
@@ -102,6 +102,16 @@ impl<T: Drop> Items<T> {
             self.items.reserve_exact(len.max(1))?;
         }
         self.items.push(item)?;
+        Ok(())
+    }
+
+    /// Puts an item at a place, before the one that stands there.
+    pub fn insert(&mut self, at: usize, item: T) -> Result<(), NoMemory>
+        requires { at ≤ length self.old }
+        ensures ok { OnOk result (self.new ≡ insert self.old at item) }
+        ensures err { OnErr result (self.new ≡ self.old) }
+    {
+        self.items.insert(at, item)?;
         Ok(())
     }
 

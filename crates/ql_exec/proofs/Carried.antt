@@ -13,7 +13,7 @@ use Rattle.ql_rel.specs.declared.db.Db.{Db}
 use Rattle.ql_rel.specs.declared.plan.Plan.{Plan}
 use Rattle.ql_rel.specs.declared.schema.Schema.{Schema}
 use Rattle.ql_syntax.specs.Answers.{Answer, refused, then_with}
-use Rattle.ql_rel.specs.InsertEffects.{inserts}
+use Rattle.ql_rel.specs.InsertEffects.{inserts, inserts_shown}
 use Rattle.ql_rel.specs.Plans.{select_plan}
 use Rattle.ql_rel.specs.SelectRows.{select_text}
 use Rattle.ql_rel.specs.StatementEffects.{creates, silent, carried}
@@ -25,7 +25,7 @@ use Rattle.ql_exec.specs.Depths.{IsDeepEnough}
 use Rattle.ql_exec.specs.Scans.{AddsText}
 use Rattle.ql_exec.specs.declared.fault.ExecFault.{ExecFault}
 use Rattle.ql_exec.specs.declared.fault.ExecFault.TheVariants as fault
-use Rattle.ql_exec.proofs.Planned.{Inserts, insert_says}
+use Rattle.ql_exec.proofs.Planned.{Inserts, insert_says, Selects, select_says}
 
 change_does : {T : Type 0} (effect : Answer Db) (r : Result T ExecFault) (now : Option Db) (out : List ℕ) → Changes effect r now → Does (then_with effect silent) r out out now
 change_does effect (Ok x) now out c = record { text = []; after = c.after; is = ap (λ (a : Answer Db). then_with a silent) c.is; out = sym (append-nil out); holds = c.holds }
@@ -78,6 +78,12 @@ insert_planned schema statement name names rows_of boxed exprs p i b w h =
     let is : statement ≡ s.Insert name names (source.Rows exprs) = i ∙ ap (λ (r : RowSource). s.Insert name names r) (sym b ∙ w) in
     insert_says schema name names exprs p (subst (λ (z : Statement). statement_plan schema z ≡ Ok p) is h)
 
+pub selecting_planned : (schema : Schema) (statement : Statement) (name : List ℕ) (names : List (List ℕ)) (rows_of boxed : RowSource) (q select : Select) (p : Plan) → statement ≡ s.Insert name names rows_of → boxed ≡ rows_of → boxed ≡ source.Query q → select ≡ q
+    → statement_plan schema statement ≡ Ok p → Selects schema name select p
+selecting_planned schema statement name names rows_of boxed q select p i b w e h =
+    let is : statement ≡ s.Insert name names (source.Query select) = i ∙ ap (λ (r : RowSource). s.Insert name names r) (sym b ∙ w ∙ ap source.Query (sym e)) in
+    select_says schema name names select p (subst (λ (z : Statement). statement_plan schema z ≡ Ok p) is h)
+
 -- what each part does is what the statement does
 pub query_does : {T : Type 0} (with_names : Bool) (statement : Statement) (q select : Select) (p : Plan) (r : Result T ExecFault) (o now : Option Db) (before new : List ℕ) → statement ≡ s.Query q → select ≡ q → now ≡ o
     → IfSome o (λ d. AddsText (select_text with_names d select p) r before new) → IfSome o (λ d. Does (carried with_names statement p d) r before new now)
@@ -97,14 +103,12 @@ insert_does with_names statement name names rows_of boxed exprs p r o now out i 
     let is : statement ≡ s.Insert name names (source.Rows exprs) = i ∙ ap (λ (r : RowSource). s.Insert name names r) (sym b ∙ w) in
     subst (λ (z : Statement). IfSome o (λ d. Does (carried with_names z p d) r out out now)) (sym is) (changes_do (inserts name p.targets p.rows) r o now out h)
 
--- an INSERT of a SELECT is not built yet
-pub selected_later : (T : Type 0) (with_names : Bool) (statement : Statement) (name : List ℕ) (names : List (List ℕ)) (rows_of boxed : RowSource) (q : Select) (p : Plan) (f : ExecFault) (o now : Option Db) (before new : List ℕ) → f ≡ fault.Refused (record { number = 10; name = [] }) → statement ≡ s.Insert name names rows_of
-    → boxed ≡ rows_of → boxed ≡ source.Query q → IfSome o (λ d. Does {T = T} (carried with_names statement p d) (Err f) before new now)
-selected_later T with_names statement name names rows_of boxed q p f None now before new e i b w = tt
-selected_later T with_names statement name names rows_of boxed q p f (Some d) now before new e i b w =
-    let is : statement ≡ s.Insert name names (source.Query q) = i ∙ ap (λ (r : RowSource). s.Insert name names r) (sym b ∙ w) in
-    let refuses : carried with_names statement p d ≡ refused 10 = subst (λ (z : Statement). carried with_names z p d ≡ refused 10) (sym is) refl in
-    subst (λ (z : ExecFault). Does {T = T} (carried with_names statement p d) (Err z) before new now) (sym e) refuses
+-- the same of a SELECT
+pub selecting_does : {T : Type 0} (with_names : Bool) (statement : Statement) (name : List ℕ) (names : List (List ℕ)) (rows_of boxed : RowSource) (q select : Select) (p : Plan) (r : Result T ExecFault) (o now : Option Db) (out : List ℕ) → statement ≡ s.Insert name names rows_of
+    → boxed ≡ rows_of → boxed ≡ source.Query q → select ≡ q → IfSome o (λ d. Changes (inserts_shown name select p d) r now) → IfSome o (λ d. Does (carried with_names statement p d) r out out now)
+selecting_does with_names statement name names rows_of boxed q select p r o now out i b w e h =
+    let is : statement ≡ s.Insert name names (source.Query select) = i ∙ ap (λ (r : RowSource). s.Insert name names r) (sym b ∙ w ∙ ap source.Query (sym e)) in
+    subst (λ (z : Statement). IfSome o (λ d. Does (carried with_names z p d) r out out now)) (sym is) (changes_do (inserts_shown name select p) r o now out h)
 
 -- every other statement with a plan is not built yet
 abbrev IsOther : Statement → Type 0

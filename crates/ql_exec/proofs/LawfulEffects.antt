@@ -7,6 +7,7 @@ use Rattle.ql_syntax.specs.declared.statement.RowSource.TheVariants as source
 use Rattle.ql_syntax.specs.declared.statement.Statement.{Statement}
 use Rattle.ql_syntax.specs.declared.statement.Statement.TheVariants as s
 use Rattle.ql_syntax.specs.declared.syntax.Expr.{Expr}
+use Rattle.ql_syntax.specs.declared.syntax.Select.{Select, out-Select}
 use Rattle.ql_rel.specs.declared.db.Db.{Db}
 use Rattle.ql_rel.specs.declared.fault.RelFault.{RelFault}
 use Rattle.ql_rel.specs.declared.fault.RelFault.TheVariants as fault
@@ -18,14 +19,16 @@ use Rattle.ql_rel.specs.ChangePlans.{update_plan}
 use Rattle.ql_rel.specs.Changes.{table_created, column_added, column_dropped}
 use Rattle.ql_rel.specs.Databases.{schema_of, columns_if, columns_at, rows_at}
 use Rattle.ql_rel.specs.CreatePlans.{takes_all, create_table_plan}
-use Rattle.ql_rel.specs.InsertEffects.{new_rows, rows_added, inserts}
+use Rattle.ql_rel.specs.InsertEffects.{rows_from, new_rows, rows_added, inserts, inserts_shown}
 use Rattle.ql_rel.specs.InsertPlans.{insert_plan}
 use Rattle.ql_rel.specs.FormLaws.{FormLaws}
 use Rattle.ql_rel.specs.Lawful.{IsLawful}
 use Rattle.ql_rel.specs.Limits.{is_past_table, is_past_added}
 use Rattle.ql_rel.specs.NewNames.{place_named, column_place}
+use Rattle.ql_rel.specs.Plans.{add_sets}
+use Rattle.ql_rel.specs.PlanTypes.{types_if}
 use Rattle.ql_rel.specs.Refusals.{refused_if, or_next, is_long_with_null}
-use Rattle.ql_rel.specs.SelectRows.{select_text}
+use Rattle.ql_rel.specs.SelectRows.{shown_rows, select_text}
 use Rattle.ql_rel.specs.Refused.{unless}
 use Rattle.ql_rel.specs.StatementEffects.{creates, drops, empties, adds_column, drops_column, silent, carried, statement_effect}
 use Rattle.ql_rel.specs.StatementPlans.{statement_plan}
@@ -38,10 +41,12 @@ use Rattle.ql_rel.proofs.Fits.{then_ok, same_ok}
 use Rattle.ql_exec.proofs.Altered.{add_says, drop_says, within_at, several_at, add_made, drop_made}
 use Rattle.ql_exec.proofs.LawfulColumns.{added_lawful, narrowed_lawful}
 use Rattle.ql_exec.proofs.NewRows.{rows_fit}
+use Rattle.ql_exec.proofs.Placed.{placed_fit, results_for}
+use Rattle.ql_exec.proofs.Resulted.{shown_results}
 use Rattle.ql_exec.proofs.LawfulRows.{rows_lawful}
 use Rattle.ql_exec.proofs.LawfulChanges.{dropped_lawful, truncated_lawful, removed_lawful, updated_lawful}
 use Rattle.ql_exec.proofs.LawfulTables.{create_lawful}
-use Rattle.ql_exec.proofs.Planned.{insert_says}
+use Rattle.ql_exec.proofs.Planned.{insert_says, select_says}
 use Rattle.ql_exec.proofs.ReadBack.{reads_itself}
 use Rattle.ql_exec.proofs.Tabled.{drop_there, update_says}
 
@@ -79,6 +84,17 @@ insert_keeps laws name names exprs p db after text l e c =
     let columns = columns_at place (schema_of db) in
     let done = then_ok (new_rows p.targets columns p.rows) (λ values. rows_added place values db) after (silent_is (inserts name p.targets p.rows db) text after c) in
     rows_lawful laws place done.0 db after l says.takes (rows_fit columns p.targets p.rows done.0 says.typed done.1) done.2
+
+selecting_keeps : (laws : FormLaws) (name : List ℕ) (names : List (List ℕ)) (select : Select) (p : Plan) (db after : Db) (text : List ℕ) → IsLawful db → insert_plan (schema_of db) name names (source.Query select) ≡ Ok p
+    → then_with (inserts_shown name select p db) silent ≡ Ok (text, after) → IsLawful after
+selecting_keeps laws name names select p db after text l e c =
+    let says = select_says (schema_of db) name names select p e in
+    let place = place_named name (schema_of db).tables in
+    let columns = columns_at place (schema_of db) in
+    let types = types_if (add_sets (schema_of db) [] (out-Select select).sets) in
+    let done = then_ok (shown_rows db select p) (λ rows. rows_added place (rows_from p.targets columns rows) db) after (silent_is (inserts_shown name select p db) text after c) in
+    let each = results_for types columns p done.0 says.typed (shown_results db select p done.0 l.formed says.sets done.1) in
+    rows_lawful laws place (rows_from p.targets columns done.0) db after l says.takes (placed_fit columns p.targets done.0 each) done.2
 
 drop_keeps : (laws : FormLaws) (quiet : Bool) (name : List ℕ) (p : Plan) (db after : Db) (text : List ℕ) → IsLawful db → drop_plan (schema_of db) quiet name ≡ Ok p → silent (drops quiet name db) ≡ Ok (text, after) → IsLawful after
 drop_keeps laws quiet name p db after text l e c =
@@ -132,6 +148,7 @@ carried_lawful laws parts made with_names (s.DropTable quiet name) p db after te
 carried_lawful laws parts made with_names (s.AddColumn name c) p db after text l r e h = add_keeps laws parts made name c p db after text l r e h
 carried_lawful laws parts made with_names (s.DropColumn name column) p db after text l r e h = drop_column_keeps laws parts made name column p db after text l e h
 carried_lawful laws parts made with_names (s.Insert name names (source.Rows exprs)) p db after text l r e c = insert_keeps laws name names exprs p db after text l e c
+carried_lawful laws parts made with_names (s.Insert name names (source.Query select)) p db after text l r e c = selecting_keeps laws name names select p db after text l e c
 carried_lawful laws parts made with_names (s.Update name sets filter) p db after text l r e c = update_keeps name sets filter p db after text l e c
 carried_lawful laws parts made with_names (s.Delete name filter) p db after text l r e c =
     removed_lawful (place_named name (schema_of db).tables) p db after l (silent_is (changes true name p db) text after c)

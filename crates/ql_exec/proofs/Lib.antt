@@ -15,9 +15,12 @@ pub mod Turned
 pub mod Selected
 pub mod Opened
 pub mod Shown
+pub mod Collected
 pub mod Few
 pub mod Rounds
 pub mod Assigned
+pub mod Placed
+pub mod Resulted
 pub mod NewRows
 pub mod Rowed
 pub mod Dropped

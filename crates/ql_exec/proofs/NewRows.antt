@@ -1,5 +1,5 @@
 -- The rows that an INSERT makes fit the columns of its table.
-use Rattle.std.proofs.Common.{◌≡◌, ℕ, suc, ◌+◌, ◌<◌, List, [], ◌∷◌, length, drop, get_or, slice_index_or, map, Ok, Err, refl, sym, ap, subst, ◌∙◌, arith}
+use Rattle.std.proofs.Common.{◌≡◌, ℕ, ◌+◌, ◌<◌, List, [], ◌∷◌, length, drop, Ok, refl, sym, ap, subst, ◌∙◌}
 use Rattle.std.proofs.lemmas.List.{drop_more}
 use Rattle.std.specs.List.{AllByRecursion}
 use Rattle.ql_value.specs.declared.value.Value.{Value}
@@ -14,34 +14,18 @@ use Rattle.ql_rel.specs.Rows.{values_of}
 use Rattle.ql_rel.specs.WellFormed.{Fits}
 use Rattle.ql_rel.proofs.Fits.{then_ok, same_ok}
 use Rattle.ql_exec.specs.Answers.{AreTypedAt}
-use Rattle.ql_exec.proofs.Assigned.{values_typed, targets_below, new_fits}
+use Rattle.ql_exec.proofs.Assigned.{values_typed}
 use Rattle.ql_exec.proofs.Lined.{typed_each}
+use Rattle.ql_exec.proofs.Placed.{nulls_fit, with_fits, values_for}
 
 -- values for columns may be evaluated
 pub row_evaluates : (columns : List ColumnDef) (targets : List ℕ) (exprs : List Typed) → AreValuesFor (type_of []) columns targets exprs → AreTypedAt [] exprs
 row_evaluates columns targets exprs h = typed_each [] [] exprs tt (values_typed [] columns targets exprs h)
 
-nulls_each : (columns : List ColumnDef) → length (nulls columns) ≡ length columns
-nulls_each [] = refl
-nulls_each (c ∷ columns) = ap suc (nulls_each columns)
-
--- the places of the values are in the row of NULLs
-pub nulls_below : (columns : List ColumnDef) (targets : List ℕ) (exprs : List Typed) (row : List Value) → row ≡ v.Null ∷ nulls columns → AreValuesFor (type_of []) columns targets exprs
-    → (k d : ℕ) → k < length targets → slice_index_or targets k d + 1 < length row
-nulls_below columns targets exprs row e h k d l =
-    let below = targets_below [] columns targets exprs k d h l in
-    let same = nulls_each columns in
-    let long : length row ≡ suc (length (nulls columns)) = ap length e in
-    omega (arith, below, same, long)
-
-nulls_fit : (columns : List ColumnDef) → Fits columns (nulls columns)
-nulls_fit [] = tt
-nulls_fit (c ∷ columns) = (tt, nulls_fit columns)
-
 row_fits : (columns : List ColumnDef) (targets : List ℕ) (exprs : List Typed) (row : List Value) → AreValuesFor (type_of []) columns targets exprs → new_row targets columns exprs ≡ Ok row → Fits columns row
 row_fits columns targets exprs row h e =
     let new = then_ok (values_of [] exprs) (λ values. Ok (row_from targets values columns)) row e in
-    subst (Fits columns) (same_ok (row_from targets new.0 columns) row new.2) (new_fits [] [] columns targets exprs new.0 (nulls columns) tt h new.1 (nulls_fit columns))
+    subst (Fits columns) (same_ok (row_from targets new.0 columns) row new.2) (with_fits columns targets new.0 (nulls columns) (values_for [] [] columns targets exprs new.0 tt h new.1) (nulls_fit columns))
 
 pub rows_fit : (columns : List ColumnDef) (targets : List ℕ) (rows : List (List Typed)) (values : List (List Value)) → AllByRecursion (AreValuesFor (type_of []) columns targets) rows → new_rows targets columns rows ≡ Ok values → AllByRecursion (Fits columns) values
 rows_fit columns targets [] values h e = subst (AllByRecursion (Fits columns)) (same_ok [] values e) tt

@@ -6,6 +6,7 @@ use Rattle.std.specs.Str.{bytes_eq}
 use Rattle.ql_value.specs.declared.refusal.Refusal.{Refusal}
 use Rattle.ql_value.specs.declared.value.Kind.TheVariants as k
 use Rattle.ql_syntax.specs.declared.statement.ColumnDef.{ColumnDef}
+use Rattle.ql_syntax.specs.declared.statement.RowSource.{RowSource}
 use Rattle.ql_syntax.specs.declared.statement.RowSource.TheVariants as source
 use Rattle.ql_syntax.specs.declared.statement.Statement.TheVariants as s
 use Rattle.ql_syntax.specs.declared.syntax.Expr.{Expr}
@@ -14,23 +15,25 @@ use Rattle.ql_syntax.specs.declared.syntax.Field.{Field}
 use Rattle.ql_syntax.specs.declared.syntax.FromSet.{FromSet, out-FromSet}
 use Rattle.ql_syntax.specs.declared.syntax.Join.{Join}
 use Rattle.ql_syntax.specs.declared.syntax.Link.{Link}
-use Rattle.ql_syntax.specs.declared.syntax.Select.{Select}
+use Rattle.ql_syntax.specs.declared.syntax.Select.{Select, out-Select}
 use Rattle.ql_syntax.specs.declared.syntax.SetSource.{SetSource, out-SetSource}
 use Rattle.ql_syntax.specs.declared.typing.Typing.{Typing}
 use Rattle.ql_syntax.specs.declared.typing.Typing.TheVariants.{OfKind}
+use Rattle.ql_rel.specs.declared.change.Target.{Target}
 use Rattle.ql_rel.specs.declared.plan.Plan.{Plan}
 use Rattle.ql_rel.specs.declared.schema.Schema.{Schema}
 use Rattle.ql_rel.specs.declared.schema.TableSchema.{TableSchema}
+use Rattle.ql_rel.specs.declared.select.Source.{Source}
 use Rattle.ql_syntax.specs.declared.scope.Slot.{Slot}
 use Rattle.ql_syntax.specs.Answers.{Answer, then_with}
 use Rattle.ql_rel.specs.CreatePlans.{takes_all}
 use Rattle.ql_rel.specs.Databases.{columns_if, columns_at}
-use Rattle.ql_rel.specs.InsertPlans.{takes_rows, without_checks, source_plan, insert_plan}
+use Rattle.ql_rel.specs.InsertPlans.{takes_rows, without_checks, inserted_plan, source_plan, insert_plan}
 use Rattle.ql_rel.specs.Limits.{IsWithin}
 use Rattle.ql_rel.specs.NewNames.{table_there, known_table, place_named}
-use Rattle.ql_rel.specs.PlanTypes.{slot_types, types_if, columns_named, ValuesTyped}
-use Rattle.ql_rel.specs.Plans.{table_named, is_metadata, set_name, column_slots, add_table, add_source, add_set, add_sets}
-use Rattle.ql_rel.specs.Targets.{targets_of}
+use Rattle.ql_rel.specs.PlanTypes.{slot_types, types_if, columns_named, ValuesTyped, RowsSelected}
+use Rattle.ql_rel.specs.Plans.{table_named, is_metadata, set_name, column_slots, add_table, add_source, add_set, add_sets, without_join, row_scope, is_some_list, row_conditions, source_of, output_of, limits_of, selected}
+use Rattle.ql_rel.specs.Targets.{kinds_of, targets_of}
 use Rattle.ql_rel.proofs.ChangeFits.{known_columns, statement_typed}
 use Rattle.ql_rel.proofs.Fits.{then_ok, same_ok}
 use Rattle.ql_exec.specs.Scans.{table_types}
@@ -61,30 +64,71 @@ known_if false r name o t e = there_is name o t e
 pub known_is : (name : List ℕ) (schema : Schema) (t : TableSchema) → known_table name schema ≡ Ok t → table_named name schema.tables ≡ Some t
 known_is name schema t e = known_if (is_metadata name) (record { number = 9; name = name }) name (table_named name schema.tables) t e
 
--- what the plan of an INSERT of rows says: its table is there, and its rows have values for the columns
-pub record Inserts (schema : Schema) (name : List ℕ) (p : Plan) : Type 0 where
+-- what the plan of an INSERT says: its table is there and takes rows, and the plan is one for some columns of it
+pub record Into (schema : Schema) (name : List ℕ) (rows_of : RowSource) (p : Plan) : Type 0 where
   pub there : place_named name schema.tables < length schema.tables
-  pub typed : ValuesTyped (columns_at (place_named name schema.tables) schema) p
   pub takes : TakesRows (place_named name schema.tables) schema
+  pub columns : columns_named name schema ≡ columns_at (place_named name schema.tables) schema
+  pub targets : List Target
+  pub plan : source_plan schema targets rows_of ≡ Ok p
 
 pub checked_if : (b : Bool) (r : Refusal) (u : Unit {0}) → ◌≡◌ {A = Answer (Unit {0})} (if b then Ok tt else Err r) (Ok u) → b ≡ true
 checked_if true r u e = refl
 checked_if false r u e = absurd (cc)
 
-pub insert_says : (schema : Schema) (name : List ℕ) (names : List (List ℕ)) (exprs : List (List Expr)) (p : Plan) → insert_plan schema name names (source.Rows exprs) ≡ Ok p → Inserts schema name p
-insert_says schema name names exprs p e =
-    let a = then_ok (known_table name schema) (λ table. then_with (targets_of table.columns names) (λ targets. then_with (without_checks schema table.columns) (λ _. source_plan schema targets (source.Rows exprs)))) p e in
-    let b = then_ok (targets_of a.0.columns names) (λ targets. then_with (without_checks schema a.0.columns) (λ _. source_plan schema targets (source.Rows exprs))) p a.2 in
-    let c = then_ok (without_checks schema a.0.columns) (λ _. source_plan schema b.0 (source.Rows exprs)) p b.2 in
+into_says : (schema : Schema) (name : List ℕ) (names : List (List ℕ)) (rows_of : RowSource) (p : Plan) → insert_plan schema name names rows_of ≡ Ok p → Into schema name rows_of p
+into_says schema name names rows_of p e =
+    let a = then_ok (known_table name schema) (λ table. then_with (targets_of table.columns names) (λ targets. then_with (without_checks schema table.columns) (λ _. source_plan schema targets rows_of))) p e in
+    let b = then_ok (targets_of a.0.columns names) (λ targets. then_with (without_checks schema a.0.columns) (λ _. source_plan schema targets rows_of)) p a.2 in
+    let c = then_ok (without_checks schema a.0.columns) (λ _. source_plan schema b.0 rows_of) p b.2 in
     let known = known_is name schema a.0 a.1 in
     let there = (stands_at name schema.tables a.0 known).0 in
     let columns = columns_there name schema a.0 known in
-    let typed : ValuesTyped (columns_named name schema) p = statement_typed schema (s.Insert name names (source.Rows exprs)) p e in
     let test = takes_these schema a.0.columns (checked_if (takes_rows schema a.0.columns) (record { number = 10; name = [] }) c.0 c.1) in
     record {
       there = there;
-      typed = subst (λ (cs : List ColumnDef). ValuesTyped cs p) (known_columns name schema a.0 a.1 ∙ sym columns) typed;
       takes = record { there = there; takes = subst (λ (cs : List ColumnDef). list_all takes_all cs ≡ true) (sym columns) test.1; loose = test.0 };
+      columns = known_columns name schema a.0 a.1 ∙ sym columns;
+      targets = b.0;
+      plan = c.2;
+    }
+
+-- of an INSERT of rows: they have values for the columns
+pub record Inserts (schema : Schema) (name : List ℕ) (p : Plan) : Type 0 where
+  pub there : place_named name schema.tables < length schema.tables
+  pub typed : ValuesTyped (columns_at (place_named name schema.tables) schema) p
+  pub takes : TakesRows (place_named name schema.tables) schema
+
+pub insert_says : (schema : Schema) (name : List ℕ) (names : List (List ℕ)) (exprs : List (List Expr)) (p : Plan) → insert_plan schema name names (source.Rows exprs) ≡ Ok p → Inserts schema name p
+insert_says schema name names exprs p e =
+    let into = into_says schema name names (source.Rows exprs) p e in
+    let typed : ValuesTyped (columns_named name schema) p = statement_typed schema (s.Insert name names (source.Rows exprs)) p e in
+    record { there = into.there; typed = subst (λ (cs : List ColumnDef). ValuesTyped cs p) into.columns typed; takes = into.takes }
+
+-- of an INSERT of a SELECT: the record sets are there, and the fields are values for the columns
+pub record Selects (schema : Schema) (name : List ℕ) (select : Select) (p : Plan) : Type 0 where
+  pub there : place_named name schema.tables < length schema.tables
+  pub sets : IsOk (add_sets schema [] (out-Select select).sets)
+  pub typed : RowsSelected (types_if (add_sets schema [] (out-Select select).sets)) (columns_at (place_named name schema.tables) schema) p
+  pub takes : TakesRows (place_named name schema.tables) schema
+
+sets_there : (a : Answer (List Slot)) (f : List Slot → Answer Source) (s : Source) → then_with a f ≡ Ok s → IsOk a
+sets_there (Ok slots) f s e = refl
+sets_there (Err r) f s e = absurd (cc)
+
+pub select_says : (schema : Schema) (name : List ℕ) (names : List (List ℕ)) (select : Select) (p : Plan) → insert_plan schema name names (source.Query select) ≡ Ok p → Selects schema name select p
+select_says schema name names select p e =
+    let into = into_says schema name names (source.Query select) p e in
+    let types = types_if (add_sets schema [] (out-Select select).sets) in
+    let typed : RowsSelected types (columns_named name schema) p = statement_typed schema (s.Insert name names (source.Query select)) p e in
+    let kinds = kinds_of into.targets in
+    let parts = then_ok (selected schema kinds select) (inserted_plan into.targets) p into.plan in
+    let from = then_ok (source_of schema select) (λ source. then_with (output_of kinds source.row (is_some_list source.groups) select) (λ output. then_with (limits_of select) (λ limits. Ok (record { filter = source.filter; groups = source.groups; output = output; limits = limits })))) parts.0 parts.1 in
+    record {
+      there = into.there;
+      sets = sets_there (add_sets schema [] (out-Select select).sets) (λ slots. then_with (without_join (out-Select select).join) (λ _. row_conditions (row_scope slots) select)) from.0 from.1;
+      typed = subst (λ (cs : List ColumnDef). RowsSelected types cs p) into.columns typed;
+      takes = into.takes;
     }
 
 only_one : (a : Answer (List Slot)) → then_with a (λ more. Ok more) ≡ a

@@ -34,7 +34,7 @@ cut_none None = refl
 cut_none (Some zero) = refl
 cut_none (Some (suc n)) = refl
 
-none_shown : (skip : ℕ) (most : Option ℕ) → window {A = List Value} (Some skip) most [] ≡ []
+pub none_shown : (skip : ℕ) (most : Option ℕ) → window {A = List Value} (Some skip) most [] ≡ []
 none_shown zero most = cut_none most
 none_shown (suc n) most = cut_none most
 

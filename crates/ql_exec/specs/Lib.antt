@@ -3,6 +3,7 @@ pub mod Carries
 pub mod Scans
 pub mod Turns
 pub mod Windows
+pub mod Selections
 pub mod RowChanges
 pub mod Depths
 pub mod EffectLaws

@@ -4,7 +4,7 @@ ghost use Rattle.std.specs.Prelude.{◌≡◌, IsTrue, length, IfSome, OnOk, OnE
 ghost use Rattle.ql_syntax.specs.ReadsBack.{IsReadBack};
 ghost use Rattle.ql_rel.specs.StatementEffects.{statement_effect};
 ghost use Rattle.ql_exec.specs.Carries.{Does, IsCausedExec, Leaves, StaysLawful};
-ghost use Rattle.ql_exec.specs.Depths.{IsDeepEnough};
+ghost use Rattle.ql_exec.specs.Depths.{IsDeepEnough, LeavesDb};
 
 use crate::ExecFault;
 use crate::fault::fault_of_check;
@@ -33,6 +33,7 @@ pub fn exec<R: Rel>(
     ensures done { IfSome (R.db rel.old) (λ d. Does (statement_effect with_names statement.now d)
         result out.old out.new (R.db rel.new)) }
     ensures lawful { StaysLawful (R.db rel.old) result (R.db rel.new) }
+    ensures alone { LeavesDb statement.now (R.db rel.old) (R.db rel.new) }
     ensures kept { OnErr result (out.new ≡ out.old) }
     ensures ready { OnOk result (R.is_ready rel.new ≡ R.is_ready rel.old) }
     ensures leaves { Leaves R.saved R.limit R.told R.left R.fixed rel.old rel.new }

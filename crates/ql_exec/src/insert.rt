@@ -1,31 +1,32 @@
 //! INSERT.
 
-ghost use Rattle.std.specs.Prelude.{◌≡◌, [], ◌∷◌, ℕ, ◌<◌, IsTrue, length, IfSome, IfOk, OnOk};
+ghost use Rattle.std.specs.Prelude.{◌≡◌, [], ◌∷◌, ℕ, ◌<◌, ◌==◌, ◌&&◌, IsTrue, IsOk, length, IfSome, IfOk, OnOk};
 ghost use Rattle.std.specs.List.{AllByRecursion};
+ghost use Rattle.ql_syntax.specs.declared.syntax.Select.{out-Select};
 ghost use Rattle.ql_syntax.specs.Typing.{type_of};
 ghost use Rattle.ql_value.specs.declared.value.Value.TheVariants as v;
 ghost use Rattle.ql_rel.specs.Databases.{columns_at};
 ghost use Rattle.ql_rel.specs.InsertEffects as effect;
-ghost use Rattle.ql_rel.specs.InsertEffects.{row_added, rows_added, inserts};
+ghost use Rattle.ql_rel.specs.InsertEffects.{row_added, rows_added, inserts, inserts_shown};
 ghost use Rattle.ql_rel.specs.NewNames as spec;
-ghost use Rattle.ql_rel.specs.PlanTypes.{AreValuesFor, ValuesTyped};
-ghost use Rattle.ql_rel.specs.WellFormed.{Fits};
+ghost use Rattle.ql_rel.specs.PlanTypes.{types_if, AreValuesFor, ValuesTyped, RowsSelected};
+ghost use Rattle.ql_rel.specs.Plans.{add_sets};
+ghost use Rattle.ql_rel.specs.WellFormed.{Fits, IsWellFormed};
 ghost use Rattle.ql_exec.specs.Answers.{Answers};
 ghost use Rattle.ql_exec.specs.Carries.{Changes, IsCausedExec, Leaves};
+ghost use Rattle.ql_exec.specs.Selections.{AreFor, counts_from};
 
 use crate::ExecFault;
 use crate::change::{assign, without_id};
 use crate::fault::fault_of_rel;
+use crate::gather::{ValueRows, gather_shown};
 use crate::values::values_of;
-use ql_edge::{Items, Name, NoMemory};
+use ql_edge::{Name, NoMemory};
 use ql_eval::{TypedRows, Typeds};
 use ql_rel::{Plan, Rel, TableSchema};
-use ql_syntax::ColumnDef;
+use ql_syntax::{ColumnDef, Select};
 use ql_value::{Value, Values};
 use std::alloc::Global;
-
-/// Rows of values.
-type ValueRows = Items<Values>;
 
 /// A row of NULLs as expressions see it: one in place of its id, and one for each column.
 fn null_row(alloc: Global, columns: &[ColumnDef]) -> Result<Values, NoMemory>
@@ -39,6 +40,59 @@ fn null_row(alloc: Global, columns: &[ColumnDef]) -> Result<Values, NoMemory>
     Ok(row)
 }
 
+/// Whether numbers are those of so many columns, in their order.
+fn are_all(numbers: &[u64], columns: usize) -> bool
+    ensures { result ≡ ((length numbers.now == columns) && counts_from 0 numbers.now) }
+{
+    if numbers.len() != columns {
+        return false;
+    }
+    let mut place = 0;
+    'numbers: for number in numbers {
+        if *number != place {
+            return false;
+        }
+        place += 1;
+    }
+    true
+}
+
+/// A row is put together: each value stands in the column that it is for, and NULL in every other one. Values of all
+/// columns in their order are the row.
+fn place_values(
+    alloc: Global,
+    columns: &[ColumnDef],
+    targets: &[u64],
+    new: Values,
+) -> Result<Values, NoMemory>
+    requires { AreFor columns.now targets.now new }
+    ensures { IfOk result (λ row. row ≡ effect.row_from targets.now new columns.now) }
+{
+    if are_all(targets, columns.len()) {
+        return Ok(new);
+    }
+    let mut row = null_row(alloc, columns)?.into_vec();
+    assign(targets, new, &mut row);
+    without_id(alloc, row)
+}
+
+/// Rows of values, each put together.
+fn place_rows(
+    alloc: Global,
+    columns: &[ColumnDef],
+    targets: &[u64],
+    rows: ValueRows,
+) -> Result<ValueRows, NoMemory>
+    requires { AllByRecursion (AreFor columns.now targets.now) rows }
+    ensures { IfOk result (λ placed. placed ≡ effect.rows_from targets.now columns.now rows) }
+{
+    let mut placed = ValueRows::with_capacity(alloc, rows.len())?;
+    'rows: for values in rows.into_vec() {
+        placed.push(place_values(alloc, columns, targets, values)?)?;
+    }
+    Ok(placed)
+}
+
 /// A new row of a table: the values of its expressions, each in its column, and NULL in every other one.
 fn new_row(
     alloc: Global,
@@ -50,9 +104,7 @@ fn new_row(
     ensures { Answers (effect.new_row targets.now columns.now exprs.now) result }
 {
     let new = values_of(alloc, exprs, &[])?;
-    let mut row = null_row(alloc, columns)?.into_vec();
-    assign(targets, new, &mut row);
-    Ok(without_id(alloc, row)?)
+    Ok(place_values(alloc, columns, targets, new)?)
 }
 
 /// New rows of a table, all of them.
@@ -177,6 +229,42 @@ pub fn insert_rows<R: Rel>(
         columns_of(rel, table),
         plan.targets.as_slice(),
         &plan.rows,
+    )?;
+    add_rows(alloc, rel, table, &rows)
+}
+
+/// Carries out an INSERT of the rows of a SELECT that has a plan: all of them are there, and then go in one after another.
+pub fn insert_selected<R: Rel>(
+    alloc: Global,
+    rel: &mut R,
+    name: &Name,
+    select: &Select,
+    plan: &Plan,
+) -> Result<(), ExecFault>
+    requires ready { IsTrue (R.is_ready rel.old) }
+    requires level { 0 < length (R.saved rel.old) }
+    requires formed { IfSome (R.db rel.old) IsWellFormed }
+    requires table { spec.place_named name.now (R.schema rel.old).tables < length
+        (R.schema rel.old).tables }
+    requires sets { IsOk (add_sets (R.schema rel.old) [] (out-Select select.now).sets) }
+    requires typed { RowsSelected (types_if (add_sets (R.schema rel.old) [] (out-Select
+        select.now).sets)) (columns_at (spec.place_named name.now (R.schema rel.old).tables)
+        (R.schema rel.old)) plan.now }
+    ensures done { IfSome (R.db rel.old) (λ d. Changes (inserts_shown name.now select.now plan.now
+        d) result (R.db rel.new)) }
+    ensures schema { OnOk result (R.schema rel.new ≡ R.schema rel.old) }
+    ensures ready { OnOk result (R.is_ready rel.new ≡ R.is_ready rel.old) }
+    ensures leaves { Leaves R.saved R.limit R.told R.left R.fixed rel.old rel.new }
+    ensures cause { IsCausedExec (R.limit rel.old) (R.db rel.old) result (R.faults rel.old)
+        (R.faults rel.new) }
+{
+    let table = table_named(rel, name);
+    let shown = gather_shown(alloc, rel, select, plan)?;
+    let rows = place_rows(
+        alloc,
+        columns_of(rel, table),
+        plan.targets.as_slice(),
+        shown,
     )?;
     add_rows(alloc, rel, table, &rows)
 }

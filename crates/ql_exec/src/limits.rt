@@ -62,7 +62,7 @@ pub(crate) fn window_of(limit: Option<u128>, offset: Option<u128>) -> Window
 }
 
 /// Whether the next row is shown.
-fn shows_next(window: &mut Window) -> bool
+pub(crate) fn shows_next(window: &mut Window) -> bool
     ensures { (row : List Value) (rows : List (List Value)) → windows.shown window.old (row ∷ rows)
         ≡ (if result then row ∷ windows.shown window.new rows else windows.shown window.new rows) }
 {

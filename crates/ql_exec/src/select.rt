@@ -27,7 +27,7 @@ use ql_value::LATER;
 use std::alloc::Global;
 
 /// Whether rows are shown in the order in which they come, and each of them.
-fn is_in_turn(distinct: bool, plan: &Plan) -> bool
+pub(crate) fn is_in_turn(distinct: bool, plan: &Plan) -> bool
     ensures { result ≡ spec.is_in_turn distinct plan.now }
 {
     !distinct && plan.keys.is_empty()
@@ -52,7 +52,7 @@ fn open_set<R: Rel>(rel: &R, set: &FromSet) -> Option<RowsLeft>
 }
 
 /// The rows of a FROM before the first is given, none where it is not built yet.
-fn open_rows<R: Rel>(rel: &R, select: &Select) -> Option<RowsLeft>
+pub(crate) fn open_rows<R: Rel>(rel: &R, select: &Select) -> Option<RowsLeft>
     requires formed { IfSome (R.db rel.now) IsWellFormed }
     requires there { IsOk (add_sets (R.schema rel.now) [] (out-Select select.now).sets) }
     ensures rows { IfSome (R.db rel.now) (λ d. Opens (spec.from_rows d

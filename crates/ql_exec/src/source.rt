@@ -9,6 +9,7 @@ ghost use Rattle.ql_rel.specs.SelectRows as spec;
 ghost use Rattle.ql_rel.specs.WellFormed.{IsWellFormed};
 ghost use Rattle.ql_exec.specs.Carries.{IsCausedExec, IsTroubleAlone, Leaves};
 ghost use Rattle.ql_exec.specs.Scans.{table_types};
+ghost use Rattle.ql_exec.specs.Selections.{IsResultOf};
 ghost use Rattle.ql_exec.specs.Turns.{rows_if, rows_of, types_if, IsThere, Rises, results_left, Comes, Passes};
 
 use crate::ExecFault;
@@ -178,6 +179,8 @@ pub(crate) fn next_result<R: Rel>(
     ensures row { IfSome (R.db rel.old) (λ d. Comes (results_left plan.now.filter plan.now.fields
         (rows_of left.old d)) result (results_left plan.now.filter plan.now.fields
         (rows_of left.new d))) }
+    ensures made { IfOk result (λ row. IfSome row (λ r. IsResultOf (types_if left.old.table
+        (R.schema rel.old)) plan.now.fields r.values)) }
     ensures table { left.new.table ≡ left.old.table }
     ensures over { IfOk result (λ row. IfSome row (λ _. Rises left.old.after left.new.after)) }
     ensures db { R.db rel.new ≡ R.db rel.old }

@@ -6,7 +6,7 @@ ghost use Rattle.ql_rel.specs.StatementEffects.{carried};
 ghost use Rattle.ql_rel.specs.StatementPlans.{statement_plan};
 ghost use Rattle.ql_rel.specs.WellFormed.{IsWellFormed};
 ghost use Rattle.ql_exec.specs.Carries.{Does, IsCausedExec, Leaves};
-ghost use Rattle.ql_exec.specs.Depths.{IsDeepEnough};
+ghost use Rattle.ql_exec.specs.Depths.{IsDeepEnough, LeavesDb};
 
 use crate::ExecFault;
 use crate::alter::{add_column, drop_column};
@@ -14,7 +14,7 @@ use crate::change::change_table;
 use crate::create::create_table;
 use crate::drop::{drop_table, truncate_table};
 use crate::fault::refusal;
-use crate::insert::insert_rows;
+use crate::insert::{insert_rows, insert_selected};
 use crate::select::add_select;
 use ql_edge::Bytes;
 use ql_rel::{Plan, Rel};
@@ -39,6 +39,7 @@ pub fn carry<R: Rel>(
     requires read { IsReadBack statement.now }
     ensures done { IfSome (R.db rel.old) (λ d. Does (carried with_names statement.now plan.now d)
         result out.old out.new (R.db rel.new)) }
+    ensures alone { LeavesDb statement.now (R.db rel.old) (R.db rel.new) }
     ensures kept { OnErr result (out.new ≡ out.old) }
     ensures ready { OnOk result (R.is_ready rel.new ≡ R.is_ready rel.old) }
     ensures leaves { Leaves R.saved R.limit R.told R.left R.fixed rel.old rel.new }
@@ -57,7 +58,7 @@ pub fn carry<R: Rel>(
         Statement::DropColumn { table, column } => drop_column(alloc, rel, table, column),
         Statement::Insert { table, source, .. } => match source.get() {
             RowSource::Rows(_) => insert_rows(alloc, rel, table, plan),
-            RowSource::Query(_) => Err(refusal(alloc, LATER)),
+            RowSource::Query(select) => insert_selected(alloc, rel, table, select.get(), plan),
         },
         Statement::Update { table, .. } => change_table(alloc, rel, table, false, plan),
         Statement::Delete { table, .. } => change_table(alloc, rel, table, true, plan),

@@ -1,13 +1,9 @@
 -- The laws of events.
-use Rattle.std.proofs.Common.{◌≡◌, ℕ, suc, ◌+◌, ◌<◌, ◌≤◌, Bool, true, false, cond, nat_lt, List, [], ◌∷◌, ◌++◌, length, filter, Ok, Err, refl, sym, ap, ◌∙◌, arith, append_assoc, length-append}
+use Rattle.std.proofs.Common.{◌≡◌, ℕ, suc, ◌+◌, ◌<◌, ◌≤◌, Bool, true, false, cond, nat_lt, List, [], ◌∷◌, ◌++◌, length, filter, refl, sym, ap, ◌∙◌, arith, append_assoc, length-append}
 use Rattle.std.proofs.lemmas.Bool.Decides.{nat_tests}
-use Rattle.ql_syntax.specs.declared.statement.Statement.{Statement}
 use Rattle.ql_rel.specs.declared.db.Db.{Db}
-use Rattle.ql_syntax.specs.Answers.{Answer}
-use Rattle.ql_rel.specs.Courses.{course, acknowledged, follows}
-use Rattle.ql_rel.specs.Events.{Event, shows, commits, Course, shown_text, commits_of, places_from, places_of, told_by, kept_after}
-use Rattle.ql_rel.specs.EventLaws.{NeverFall, CommitsOnce}
-use Rattle.ql_rel.specs.StatementEffects.{statement_effect}
+use Rattle.ql_rel.specs.Events.{Event, shows, commits, shown_text, commits_of, places_from, places_of, told_by, kept_after}
+use Rattle.ql_rel.specs.EventLaws.{NeverFall}
 
 weaker : (a b : ℕ) (ns : List ℕ) → a ≤ b → NeverFall b ns → NeverFall a ns
 weaker a b [] h k = tt
@@ -89,16 +85,3 @@ pub kept_join : (a b : List Event) (db : Db) → kept_after db (a ++ b) ≡ kept
 kept_join [] b db = refl
 kept_join (shows text ∷ a) b db = kept_join a b db
 kept_join (commits after ∷ a) b db = kept_join a b after
-
-no_commit : (ack : Bool) (n : ℕ) → commits_of (acknowledged ack n) ≡ []
-no_commit false n = refl
-no_commit true n = refl
-
-once_behind : (number : ℕ) (answer : Answer (List ℕ × Db)) (more : Db → Course) → ((after : Db) → CommitsOnce (more after).closing (commits_of (more after).events)) → CommitsOnce (follows number answer more).closing (commits_of (follows number answer more).events)
-once_behind number (Ok done) more h = h done.1
-once_behind number (Err refusal) more h = refl
-
-pub commit_once : (with_names ack : Bool) (number : ℕ) (statements : List Statement) (db : Db)
-    → CommitsOnce (course with_names ack number statements db).closing (commits_of (course with_names ack number statements db).events)
-commit_once with_names ack number [] db = ap (λ (dbs : List Db). suc (length dbs)) (no_commit ack 1)
-commit_once with_names ack number (s ∷ ss) db = once_behind number (statement_effect with_names s db) (λ after. course with_names ack (suc number) ss after) (λ after. commit_once with_names ack (suc number) ss after)

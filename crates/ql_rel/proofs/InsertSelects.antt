@@ -17,19 +17,19 @@ use Rattle.ql_syntax.specs.declared.typing.Typing.TheVariants.{OfKind}
 use Rattle.ql_syntax.specs.Answers.{Answer, then_with, refused}
 use Rattle.ql_syntax.specs.Checked.{of_type, number_of, narrow, take_kind, meet_type}
 use Rattle.ql_syntax.specs.GroupTyping.{type_by, type_in_group}
-use Rattle.ql_syntax.specs.Typing.{IsTyped}
+use Rattle.ql_syntax.specs.Typing.{IsTyped, type_of}
 use Rattle.ql_rel.specs.declared.change.Target.{Target}
 use Rattle.ql_rel.specs.declared.plan.Plan.{Plan}
 use Rattle.ql_rel.specs.declared.schema.Schema.{Schema}
 use Rattle.ql_rel.specs.declared.select.ResultField.{ResultField}
 use Rattle.ql_rel.specs.InsertPlans.{checked_fields, inserted_plan, inserted_select}
-use Rattle.ql_rel.specs.Plans.{add_sets, any_field_aggregate, met_slot, field_slots, selected, whole_plan_of}
+use Rattle.ql_rel.specs.Plans.{add_sets, any_field_aggregate, met_slot, field_slots, is_some_list, selected, whole_plan_of}
 use Rattle.ql_rel.specs.PlanTypes.{types_if, slot_types, RowsSelected}
 use Rattle.ql_rel.specs.Targets.{numbers_of, kinds_of, for_kind, for_targets, counted_for}
 use Rattle.ql_rel.proofs.Fits.{Fits, then_ok, same_ok}
-use Rattle.ql_rel.proofs.InsertFits.{for_parts, kind_typed_by, counted_ok, values_for}
+use Rattle.ql_rel.proofs.InsertFits.{for_parts, kind_typed, kind_typed_by, counted_ok, values_for}
 use Rattle.ql_rel.proofs.PlanFits.{FieldsFit}
-use Rattle.ql_rel.proofs.SelectFits.{ComesTo, plain_fields, whole_fits, selected_fits}
+use Rattle.ql_rel.proofs.SelectFits.{ComesTo, right_false, plain_fields, whole_fits, selected_fits}
 use Rattle.ql_rel.proofs.TargetFits.{AreFound}
 
 -- an untyped expression that takes a kind has it
@@ -90,5 +90,8 @@ select_inserted schema columns targets select p found a =
     let plain : any_field_aggregate fields ≡ false → ComesTo (type_by false row) (field_slots (kinds_of targets) fields) trees.0 = λ e. all_come false row targets fields trees.0 (plain_fields row fields e parts.output.fields) n.0 n.1 in
     subst (RowsSelected row columns) (same_ok (record (whole_plan_of x.0) { fields = trees.0; targets = numbers_of targets }) p trees.2) (record {
       select = whole_fits (kinds_of targets) row x.0 trees.0 (numbers_of targets) parts comes plain;
-      values = values_for (type_in_group row) (Fits true row) (kind_typed_by true row) columns targets (checked_fields x.0) trees.0 found n.0 (each_fits true row fields parts.output.fields) n.1;
+      values = λ e.
+          let own : any_field_aggregate fields ≡ false = right_false (is_some_list x.0.groups) (any_field_aggregate fields) (parts.output.grouped ∙ e) in
+          values_for (type_of row) (Fits false row) (kind_typed row) columns targets (checked_fields x.0) trees.0 found n.0 (each_fits false row fields (plain_fields row fields own parts.output.fields)) n.1;
+      group_values = values_for (type_in_group row) (Fits true row) (kind_typed_by true row) columns targets (checked_fields x.0) trees.0 found n.0 (each_fits true row fields parts.output.fields) n.1;
     })

@@ -20,6 +20,7 @@ pub mod ColumnForms
 pub mod NarrowForms
 mod TextLemmas
 mod EventLemmas
+mod SessionLemmas
 mod StatementExamples
 mod SelectExamples
 pub mod TargetFits

@@ -118,7 +118,7 @@ results_fit : (slots : List Slot) (written : List Field) (fields : List ResultFi
 results_fit slots [] fields h a = all_star slots fields h a
 results_fit slots (f ∷ written) fields h a = fields_fit (slot_types slots) (row_scope slots) (row_stands slots h) (f ∷ written) fields a
 
-right_false : (a b : Bool) → (a || b) ≡ false → b ≡ false
+pub right_false : (a b : Bool) → (a || b) ≡ false → b ≡ false
 right_false true b h = absurd (cc)
 right_false false b h = h
 

@@ -9,20 +9,22 @@ use Rattle.ql_syntax.specs.declared.statement.ColumnDef.{ColumnDef}
 use Rattle.ql_syntax.specs.declared.statement.Item.TheVariants as item
 use Rattle.ql_syntax.specs.declared.statement.RowSource.TheVariants as source
 use Rattle.ql_syntax.specs.declared.statement.Statement.TheVariants as s
+use Rattle.ql_syntax.specs.declared.syntax.Select.{Select}
 use Rattle.ql_syntax.specs.declared.typed.Typed.TheVariants as t
 use Rattle.ql_syntax.specs.declared.typing.Typing.TheVariants.{OnlyNull, OfKind}
 use Rattle.ql_syntax.specs.declared.checked.Checked.{Checked}
 use Rattle.ql_rel.specs.declared.db.Db.{Db}
 use Rattle.ql_rel.specs.declared.db.Row.{Row}
+use Rattle.ql_rel.specs.declared.plan.Plan.{Plan}
 use Rattle.ql_rel.specs.declared.schema.Schema.{Schema}
 use Rattle.ql_syntax.specs.Answers.{refused, refused_at, then_with}
 use Rattle.ql_rel.specs.Changes.{row_of}
 use Rattle.ql_syntax.specs.Checked.{of_type, literal_of}
-use Rattle.ql_rel.specs.Courses.{course, committed}
+use Rattle.ql_rel.specs.Sessions.{committed, opened, session}
 use Rattle.ql_rel.specs.Databases.{empty_db}
-use Rattle.ql_rel.specs.InsertEffects.{row_from, rows_added}
+use Rattle.ql_rel.specs.InsertEffects.{row_from, rows_from, rows_added, inserts_shown}
 use Rattle.ql_rel.specs.Events.{Event, shows, refused_in, places_of, told_by}
-use Rattle.ql_rel.specs.SelectRows.{set_rows, heading, lines_of}
+use Rattle.ql_rel.specs.SelectRows.{set_rows, heading, lines_of, shown_rows}
 use Rattle.ql_rel.specs.Targets.{new_target, all_targets, targets_of, for_kind, counted_for}
 use Rattle.ql_rel.specs.CreatePlans.{no_parts}
 use Rattle.ql_rel.specs.StatementEffects.{statement_effect}
@@ -80,6 +82,14 @@ second_alone = refl
 
 both_turned : row_from (1 ∷ 0 ∷ []) (v.Text (codes "x") ∷ v.Int k.Int8 (pos 1) ∷ []) t_columns ≡ one
 both_turned = refl
+
+-- rows of a SELECT are put together like others, and go in behind the rows that it was made of
+shown_placed : rows_from (1 ∷ []) t_columns ((v.Text (codes "x") ∷ []) ∷ (v.Null ∷ []) ∷ []) ≡ (v.Null ∷ v.Text (codes "x") ∷ []) ∷ two ∷ []
+shown_placed = refl
+
+shown_twice : (select : Select) (p : Plan) → shown_rows (with_rows_of 4 (row_of 3 one ∷ [])) select p ≡ Ok (one ∷ one ∷ []) → p.targets ≡ 0 ∷ 1 ∷ []
+    → inserts_shown (codes "t") select p (with_rows_of 4 (row_of 3 one ∷ [])) ≡ Ok (with_rows_of 6 (row_of 3 one ∷ row_of 4 one ∷ row_of 5 one ∷ []))
+shown_twice select p shown at = rw (shown, at) refl
 
 -- a quiet CREATE TABLE looks at nothing behind a name that is there; the name itself is judged, and so is that of an index
 abbrev ix : Schema
@@ -209,7 +219,7 @@ two_lines = refl
 abbrev made : List Event
 made = shows [] ∷ committed true 1 (with_rows_of 1 [])
 
-table_made : (course false true 1 (s.CreateTable false (codes "t") t_columns ∷ []) empty_db).events ≡ made
+table_made : (session false true 1 (s.CreateTable false (codes "t") t_columns ∷ []) (opened false empty_db)).events ≡ made
 table_made = refl
 
 line_behind : places_of made ≡ 0 ∷ []
@@ -218,6 +228,6 @@ line_behind = refl
 commit_told : (told_by 0 made ≡ 0) × (told_by 1 made ≡ 1)
 commit_told = (refl, refl)
 
-refused_second : course false true 1 (s.CreateTable false (codes "t") t_columns ∷ s.CreateTable false (codes "t") t_columns ∷ []) empty_db
+refused_second : session false true 1 (s.CreateTable false (codes "t") t_columns ∷ s.CreateTable false (codes "t") t_columns ∷ []) (opened false empty_db)
     ≡ record { events = shows [] ∷ []; closing = refused_in 2 (record { number = 4; name = codes "t" }) }
 refused_second = refl

@@ -1,19 +1,12 @@
 -- What holds of the text, the commits and their places in every list of events.
-use Rattle.std.specs.Prelude.{◌≡◌, ℕ, ◌<◌, ◌≤◌, Bool, List, [], ◌∷◌, ◌++◌, length}
-use Rattle.ql_syntax.specs.declared.statement.Statement.{Statement}
+use Rattle.std.specs.Prelude.{◌≡◌, ℕ, ◌<◌, ◌≤◌, List, [], ◌∷◌, ◌++◌, length}
 use Rattle.ql_rel.specs.declared.db.Db.{Db}
-use Rattle.ql_rel.specs.Courses.{course}
-use Rattle.ql_rel.specs.Events.{Event, Closing, completed, refused_in, shown_text, commits_of, places_of, told_by, kept_after}
+use Rattle.ql_rel.specs.Events.{Event, shown_text, commits_of, places_of, told_by, kept_after}
 
 -- the numbers never fall, from one on
 abbrev pub NeverFall : ℕ → List ℕ → Type 0
 NeverFall from [] = Unit {0}
 NeverFall from (n ∷ more) = (from ≤ n) × NeverFall n more
-
--- a script that was refused committed nothing, and another its last database alone
-abbrev pub CommitsOnce : Closing → List Db → Type 0
-CommitsOnce completed dbs = length dbs ≡ 1
-CommitsOnce (refused_in number refusal) dbs = dbs ≡ []
 
 -- the places of commits never fall and none is past the text; nothing shown tells of no commit, more than the text of all, and more bytes of no fewer; text and commits of events behind others stand behind theirs
 pub record EventLaws : Type 0 where
@@ -24,6 +17,4 @@ pub record EventLaws : Type 0 where
   pub more : (shown further : ℕ) (events : List Event) → shown ≤ further → told_by shown events ≤ told_by further events
   pub texts : (a b : List Event) → shown_text (a ++ b) ≡ shown_text a ++ shown_text b
   pub commits : (a b : List Event) → commits_of (a ++ b) ≡ commits_of a ++ commits_of b
-  pub once : (with_names ack : Bool) (number : ℕ) (statements : List Statement) (db : Db)
-      → CommitsOnce (course with_names ack number statements db).closing (commits_of (course with_names ack number statements db).events)
   pub kept : (a b : List Event) (db : Db) → kept_after db (a ++ b) ≡ kept_after (kept_after db a) b

@@ -3,9 +3,11 @@ use Rattle.std.specs.Prelude.{ℕ, List, [], ◌∷◌, map, Ok}
 use Rattle.ql_value.specs.declared.value.Value.{Value}
 use Rattle.ql_value.specs.declared.value.Value.TheVariants as v
 use Rattle.ql_syntax.specs.declared.statement.ColumnDef.{ColumnDef}
+use Rattle.ql_syntax.specs.declared.syntax.Select.{Select}
 use Rattle.ql_syntax.specs.declared.typed.Typed.{Typed}
 use Rattle.ql_syntax.specs.Answers.{Answer, then_with, all_of}
 use Rattle.ql_rel.specs.declared.db.Db.{Db}
+use Rattle.ql_rel.specs.declared.plan.Plan.{Plan}
 use Rattle.ql_rel.specs.ChangeEffects.{with_new}
 use Rattle.ql_rel.specs.Changes.{inserted}
 use Rattle.ql_rel.specs.Databases.{schema_of, columns_at}
@@ -13,6 +15,7 @@ use Rattle.ql_rel.specs.NewNames.{place_named}
 use Rattle.ql_rel.specs.Refusals.{insert_refusal}
 use Rattle.ql_rel.specs.Refused.{unless}
 use Rattle.ql_rel.specs.Rows.{values_of}
+use Rattle.ql_rel.specs.SelectRows.{shown_rows}
 
 -- NULL for each column
 abbrev pub nulls : List ColumnDef → List Value
@@ -30,6 +33,10 @@ new_row targets columns exprs = then_with (values_of [] exprs) (λ values. Ok (r
 abbrev pub new_rows : List ℕ → List ColumnDef → List (List Typed) → Answer (List (List Value))
 new_rows targets columns rows = all_of (map (new_row targets columns) rows)
 
+-- rows of values, each put together
+abbrev pub rows_from : List ℕ → List ColumnDef → List (List Value) → List (List Value)
+rows_from targets columns rows = map (λ values. row_from targets values columns) rows
+
 -- a row is added to the table at a place, with the next id, unless it is too long, 33, or a key of it is, 34, or the ids are spent, 35
 abbrev pub row_added : ℕ → List Value → Db → Answer Db
 row_added table values db = unless (insert_refusal table values db) (inserted table values db)
@@ -44,3 +51,9 @@ abbrev pub inserts : List ℕ → List ℕ → List (List Typed) → Db → Answ
 inserts name targets rows db =
     let table = place_named name (schema_of db).tables in
     then_with (new_rows targets (columns_at table (schema_of db)) rows) (λ values. rows_added table values db)
+
+-- the rows that a SELECT shows go into the table with a name: all of them are there before the first is added
+abbrev pub inserts_shown : List ℕ → Select → Plan → Db → Answer Db
+inserts_shown name select p db =
+    let table = place_named name (schema_of db).tables in
+    then_with (shown_rows db select p) (λ rows. rows_added table (rows_from p.targets (columns_at table (schema_of db)) rows) db)

@@ -29,6 +29,7 @@ pub mod ChangeEffects
 pub mod InsertEffects
 pub mod StatementEffects
 pub mod Events
-pub mod Courses
+pub mod Sessions
 pub mod EventLaws
+pub mod SessionLaws
 pub mod PlanLaws

@@ -75,10 +75,11 @@ pub record ChangeTyped (row : List Typing) (columns : List ColumnDef) (plan : Pl
 abbrev pub ValuesTyped : List ColumnDef → Plan → Type 0
 ValuesTyped columns plan = AllByRecursion (AreValuesFor (type_of []) columns plan.targets) plan.rows
 
--- the plan of an INSERT of the rows of a SELECT is that of a SELECT, and its fields are values for the columns
+-- the plan of an INSERT of the rows of a SELECT is that of a SELECT, and its fields are values for the columns where there is no grouping, and else in the group
 pub record RowsSelected (row : List Typing) (columns : List ColumnDef) (plan : Plan) : Type 0 where
   pub select : SelectTyped row plan
-  pub values : AreValuesFor (type_in_group row) columns plan.targets plan.fields
+  pub values : plan.grouped ≡ false → AreValuesFor (type_of row) columns plan.targets plan.fields
+  pub group_values : AreValuesFor (type_in_group row) columns plan.targets plan.fields
 
 -- the expressions of a statement's plan have types at the rows that they will see: those of a SELECT, those of an UPDATE and a DELETE, and the values of an INSERT, which see nothing; other plans have no expression
 abbrev pub PlanTyped : Schema → Statement → Plan → Type 0

@@ -12,7 +12,7 @@ use Rattle.ql_syntax.specs.Answers.{Answer, refused, then_with}
 use Rattle.ql_rel.specs.ChangeEffects.{changes}
 use Rattle.ql_rel.specs.Changes.{truncated, table_created, table_dropped, column_added, column_dropped}
 use Rattle.ql_rel.specs.Databases.{schema_of, columns_at}
-use Rattle.ql_rel.specs.InsertEffects.{inserts}
+use Rattle.ql_rel.specs.InsertEffects.{inserts, inserts_shown}
 use Rattle.ql_rel.specs.NewNames.{place_named, column_place}
 use Rattle.ql_rel.specs.Refusals.{table_refusal, column_refusal}
 use Rattle.ql_rel.specs.Refused.{unless}
@@ -60,6 +60,7 @@ carried with_names (s.DropTable quiet name) p db = silent (drops quiet name db)
 carried with_names (s.AddColumn name column) p db = then_with (adds_column name column db) silent
 carried with_names (s.DropColumn name column) p db = silent (drops_column name column db)
 carried with_names (s.Insert name names (source.Rows rows)) p db = then_with (inserts name p.targets p.rows db) silent
+carried with_names (s.Insert name names (source.Query select)) p db = then_with (inserts_shown name select p db) silent
 carried with_names (s.Update name sets filter) p db = then_with (changes false name p db) silent
 carried with_names (s.Delete name filter) p db = then_with (changes true name p db) silent
 carried with_names (s.Truncate name) p db = silent (empties name db)

@@ -1,6 +1,5 @@
 //! The tables of a database without their rows.
 
-use crate::members::Members;
 use ql_edge::{Items, Name};
 use ql_syntax::{ColumnDefs, Item};
 
@@ -24,7 +23,7 @@ pub struct TableSchema {
 }
 
 /// Tables without their rows by name, in the order of their bytes.
-pub type TableSchemas = Members<TableSchema>;
+pub type TableSchemas = Items<TableSchema>;
 
 /// The tables of a database without their rows, and its indexes.
 #[derive(Drop)]

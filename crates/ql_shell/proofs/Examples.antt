@@ -1,12 +1,12 @@
 -- What the definitions give on a few words.
-use Rattle.std.proofs.Common.{◌≡◌, [], ◌∷◌, true, refl}
+use Rattle.std.proofs.Common.{◌≡◌, [], ◌∷◌, true, false, refl}
 use Rattle.std.specs.Prelude.{codes}
 use Rattle.ql_shell.specs.Words.{request, request_of, no_options, word_of, option_word, flag_named, is_yes_letter, is_yes_word, is_no_letter, is_no_word}
 use Rattle.ql_shell.specs.declared.options.Options.{Options}
 use Rattle.ql_shell.specs.declared.words.Command.TheVariants.{Usage, Text, Input}
 
 abbrev with_names : Options
-with_names = record { with_names = true }
+with_names = record { bare = false; with_names = true }
 
 pub without_words : request_of [] ≡ request no_options Input
 unfolding word_of option_word flag_named is_yes_letter is_yes_word is_no_letter is_no_word
@@ -51,3 +51,10 @@ wrong_value = refl
 pub three_dashes : request_of (codes "---fld" ∷ []) ≡ request no_options (Usage 1)
 unfolding word_of option_word flag_named is_yes_letter is_yes_word is_no_letter is_no_word
 three_dashes = refl
+
+abbrev without_level : Options
+without_level = record { bare = true; with_names = true }
+
+pub no_level : request_of (codes "--bare" ∷ codes "-fld=1" ∷ codes "x" ∷ []) ≡ request without_level (Text (codes "x"))
+unfolding word_of option_word flag_named is_yes_letter is_yes_word is_no_letter is_no_word
+no_level = refl

@@ -1,9 +1,10 @@
 pub mod Cause
 pub mod Code
 pub mod Comes
+pub mod Goings
 pub mod Line
 pub mod Meaning
 pub mod Pieces
 pub mod Run
-pub mod Steps
+pub mod Stops
 pub mod Words

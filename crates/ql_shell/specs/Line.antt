@@ -1,7 +1,8 @@
 -- The line that is warned for each way in which a run may end.
-use Rattle.std.specs.Prelude.{ℕ, List, [], ◌∷◌, ◌++◌, codes, decimal}
+use Rattle.std.specs.Prelude.{ℕ, List, [], ◌∷◌, ◌++◌, ◌==◌, if◌then◌else◌, codes, decimal}
 use Rattle.ql_value.specs.Refusal.{refusal_word}
 use Rattle.ql_value.specs.declared.refusal.Refusal.{Refusal}
+use Rattle.ql_rel.specs.Sessions.{no_transaction, too_deep, unbalanced}
 use Rattle.ql_shell.specs.declared.status.ScriptFault.TheVariants.{TooLong, BadByte, BadLiteral, Unclosed, Unexpected, TooNested}
 use Rattle.ql_shell.specs.declared.status.Status.{Status}
 use Rattle.ql_shell.specs.declared.status.Status.TheVariants.{Done, Script, Refused, Usage, Fault, NoMemory}
@@ -11,9 +12,16 @@ abbrev pub spaced : List ℕ → List ℕ
 spaced [] = []
 spaced (b ∷ name) = 32 ∷ b ∷ name
 
+-- the word for a refusal's number: those of levels, and those of statements on tables
+abbrev pub word_of : ℕ → List ℕ
+word_of number =
+    if number == no_transaction then codes "NoTransaction" else
+    if number == too_deep then codes "TooDeep" else
+    if number == unbalanced then codes "Unbalanced" else refusal_word number
+
 -- the number of a refusal, its word, and its name where there is one
 abbrev pub refusal_text : Refusal → List ℕ
-refusal_text refusal = decimal refusal.number ++ codes " " ++ refusal_word refusal.number ++ spaced refusal.name
+refusal_text refusal = decimal refusal.number ++ codes " " ++ word_of refusal.number ++ spaced refusal.name
 
 -- what is wrong at the byte of a place, as a line
 abbrev pub place_line : ℕ → List ℕ → List ℕ

@@ -2,9 +2,9 @@
 use Rattle.std.specs.Prelude.{◌≡◌, ℕ, false, List, [], Option, Some, None, Result, Ok, Err}
 use Rattle.ql_syntax.specs.declared.statement.Statement.{Statement}
 use Rattle.ql_shell.specs.Comes.{Comes}
-use Rattle.ql_rel.specs.Courses.{course}
 use Rattle.ql_rel.specs.Databases.{empty_db}
 use Rattle.ql_rel.specs.Events.{Closing, completed, refused_in, Course, shown_text}
+use Rattle.ql_rel.specs.Sessions.{opened, session}
 use Rattle.ql_shell.specs.declared.options.Options.{Options}
 use Rattle.ql_shell.specs.declared.status.ScriptFault.{ScriptFault}
 use Rattle.ql_shell.specs.declared.status.Status.{Status}
@@ -26,9 +26,9 @@ status_after (refused_in number refusal) = Refused number refusal
 abbrev pub answered : Course → Answer
 answered c = record { text = shown_text c.events; status = status_after c.closing }
 
--- what the statements of a script mean: from no tables on, with the names of fields where the options ask for them, and without a line for each commit
+-- what the statements of a script mean: from no tables on, inside a level that opened by itself unless the options leave it out, with the names of fields where they ask for them, and without a line for each commit
 abbrev pub course_of : Options → List Statement → Course
-course_of options ss = course options.with_names false 1 ss empty_db
+course_of options ss = session options.with_names false 1 ss (opened options.bare empty_db)
 
 -- what a script answers by what it comes to: its statements from no tables, or its fault
 abbrev pub answer_of : Options → Result (List Statement) ScriptFault → Answer

@@ -43,6 +43,7 @@ value_in text = behind_first (drop (prefix_len is_in_name text) text)
 -- the options, a line each
 unfoldable pub flag_named : List ℕ → Option Flag
 flag_named name =
+    if bytes_eq name (codes "bare") then Some flag.Bare else
     if bytes_eq name (codes "fld") then Some flag.Fld else None
 
 -- a letter by which a flag is set
@@ -82,11 +83,12 @@ word_of w = if ends_options w then word.End else if is_option w then option_word
 
 -- options with a flag set or unset
 abbrev pub with_flag : Options → Flag → Bool → Options
-with_flag options flag.Fld on = record { with_names = on }
+with_flag options flag.Bare on = record { bare = on; with_names = options.with_names }
+with_flag options flag.Fld on = record { bare = options.bare; with_names = on }
 
 -- the options without any word
 abbrev pub no_options : Options
-no_options = record { with_names = false }
+no_options = record { bare = false; with_names = false }
 
 -- words joined by one space
 abbrev pub joined : List (List ℕ) → List ℕ

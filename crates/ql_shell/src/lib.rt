@@ -2,14 +2,18 @@
 #![tactic(auto)]
 
 mod fault;
+mod levels;
 mod line;
 mod options;
+mod pair;
 mod parsing;
 mod reading;
 mod script_run;
+mod session;
 mod status;
-mod step;
 mod words;
 
+pub use fault::StepFault;
 pub use script_run::{SCRIPT_LIMIT, run};
+pub use session::Session;
 pub use status::{ScriptFault, Status, code};

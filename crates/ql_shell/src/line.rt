@@ -6,8 +6,9 @@ ghost use Rattle.ql_edge.specs.Told.{with_warned, shown_of, warned_of};
 ghost use Rattle.ql_edge.specs.declared.fault.DeviceFault.TheVariants as device;
 ghost use Rattle.ql_shell.specs.Run.{WarnsLine};
 ghost use Rattle.ql_shell.specs.declared.status.Status.TheVariants as ended;
-ghost use Rattle.ql_shell.specs.Line.{refusal_text, place_line, line_of};
+ghost use Rattle.ql_shell.specs.Line.{refusal_text, place_line, line_of, word_of};
 
+use crate::levels::{NO_TRANSACTION, TOO_DEEP, UNBALANCED};
 use crate::status::{ScriptFault, Status};
 use ql_edge::{Bytes, DeviceFault, NoMemory, Shows, warn_all};
 use ql_value::{Kind, Refusal, Value, print_value};
@@ -19,12 +20,24 @@ fn add_number(number: u64, out: &mut Bytes) -> Result<(), NoMemory>
     print_value(&Value::Int(Kind::Uint64, number as i128), out)
 }
 
+/// The word for a refusal's number.
+fn word_of(refusal: &Refusal) -> &[u8]
+    ensures { result.now ≡ word_of refusal.now.number }
+{
+    match refusal.number {
+        NO_TRANSACTION => b"NoTransaction",
+        TOO_DEEP => b"TooDeep",
+        UNBALANCED => b"Unbalanced",
+        _ => refusal.word(),
+    }
+}
+
 fn add_refusal(refusal: &Refusal, out: &mut Bytes) -> Result<(), NoMemory>
     ensures { OnOk result (out.new ≡ out.old ++ refusal_text refusal.now) }
 {
     add_number(u64::from(refusal.number), out)?;
     out.extend(b" ")?;
-    out.extend(refusal.word())?;
+    out.extend(word_of(refusal))?;
     if !refusal.name.is_empty() {
         out.extend(b" ")?;
         out.extend(refusal.name.as_slice())?;

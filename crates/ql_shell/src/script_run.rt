@@ -1,5 +1,5 @@
 //! A run: what the words ask for, carried out and warned of.
-ghost use Rattle.std.specs.Prelude.{◌≡◌, ◌⊎◌, ℕ, ◌+◌, ◌<◌, ◌≤◌, All, IsTrue, false, List, length, map, Option, Result, Err, IfOk, IfErr, IfSome, OnOk};
+ghost use Rattle.std.specs.Prelude.{◌≡◌, ◌⊎◌, ℕ, ◌+◌, ◌<◌, ◌≤◌, All, IsTrue, [], List, length, map, Option, None, Some, Result, Err, IfOk, IfErr, OnOk};
 ghost use Rattle.std.specs.String.{string_bytes};
 ghost use Rattle.ql_edge.specs.Cause.{Rose};
 ghost use Rattle.ql_edge.specs.Frame.{Keeps};
@@ -8,11 +8,14 @@ ghost use Rattle.ql_syntax.specs.declared.statement.Statement.{Statement};
 ghost use Rattle.ql_syntax.specs.ReadsBack.{IsReadBack};
 ghost use Rattle.ql_shell.specs.Cause.{IsCausedReading, IsCausedStatus};
 ghost use Rattle.ql_shell.specs.Comes.{Comes, longest_script};
-ghost use Rattle.ql_rel.specs.Courses.{course};
+ghost use Rattle.ql_rel.specs.Databases.{empty_db};
+ghost use Rattle.ql_rel.specs.Events.{kept_after};
+ghost use Rattle.ql_rel.specs.Sessions.{State, session};
+ghost use Rattle.ql_shell.specs.Goings.{IsAt, MayGoOn};
 ghost use Rattle.ql_shell.specs.Meaning.{Answer, answer_of, answered, course_of, Means};
 ghost use Rattle.ql_shell.specs.Pieces.{ShowsText};
 ghost use Rattle.ql_shell.specs.Run.{IsFinal, Gives, Warns, IsFrontShown, IsAddedTo, IsShown, IsRefusedWhole, EndsEarly, EndsScript, EndsStatements, IsScript, TellsScript, Takes, TakesAll, TakesAtMost};
-ghost use Rattle.ql_shell.specs.Steps.{EndsBy, MayEnd, MayStop, StopsBy};
+ghost use Rattle.ql_shell.specs.Stops.{EndsBy, MayEnd, MayStop, StopsBy};
 ghost use Rattle.ql_shell.specs.Words.{command_of, options_of};
 ghost use Rattle.ql_shell.specs.declared.options.Options.{Options};
 ghost use Rattle.ql_shell.specs.declared.status.ScriptFault.{ScriptFault};
@@ -23,15 +26,16 @@ ghost use Rattle.ql_shell.specs.declared.words.Command.TheVariants as asked;
 use crate::fault::StepFault;
 use crate::line::warn;
 use crate::options::Options;
+use crate::pair::Pair;
 use crate::parsing::read_statements;
 use crate::reading::read_script;
+use crate::session::Session;
 use crate::status::{ScriptFault, Status};
-use crate::step::step;
 use crate::words::{Command, read_words};
 use lldb_base::Trouble;
 use ql_edge::{Bytes, Machine, Shows};
 use ql_mem_rel::MemRel;
-use ql_rel::{Rel, event_laws};
+use ql_rel::{Rel, event_laws, session_laws};
 use ql_syntax::Statements;
 use std::alloc::Global;
 
@@ -62,100 +66,117 @@ fn stop_status(statement: u64, fault: StepFault) -> Status
     }
 }
 
-/// Commits the level behind the last statement.
-fn commit(rel: &mut MemRel) -> Status
-    requires ready { IsTrue (⟦<MemRel as Rel>⟧.is_ready rel.old) }
-    requires level { 0 < length (⟦<MemRel as Rel>⟧.saved rel.old) }
-    ensures { (result ≡ ended.Done) ⊎ (result ≡ ended.NoMemory) }
-{
-    match rel.commit() {
-        Ok(()) => Status::Done,
-        Err(trouble) => trouble_status(trouble),
-    }
-}
-
-/// Carries out statements in turn inside a level, up to the first that is refused. Then the level is rolled back, and behind
-/// the last statement it is committed.
-fn carry_on<M: Shows>(
-    alloc: Global,
-    rel: &mut MemRel,
-    machine: &mut M,
-    statements: Statements,
-    with_names: bool,
-) -> Status
-    requires ready { IsTrue (⟦<MemRel as Rel>⟧.is_ready rel.old) }
-    requires level { 0 < length (⟦<MemRel as Rel>⟧.saved rel.old) }
+/// Carries out statements in turn, up to the first that is refused. Then no level is open.
+fn carry_on<R: Rel>(script: &mut Session<R>, statements: Statements) -> Status
+    requires at { (st : State) × IsAt (R.db script.old.rel) (R.saved script.old.rel)
+        script.old.commits script.old.base st }
+    requires on { MayGoOn (R.is_ready script.old.rel) (R.saved script.old.rel) script.old.base }
+    requires first { script.old.commits ≡ 0 }
+    requires limit { R.limit script.old.rel ≡ None }
     requires read { All IsReadBack statements }
-    ensures gives { IfSome (⟦<MemRel as Rel>⟧.db rel.old) (λ d.
-        Gives (answered (course with_names false 1 statements d)) result (M.told machine.old)
-        (M.told machine.new)) }
+
+    // Text and status are those of the statements from where the session stands, and so are the tables.
+    ensures gives { (st : State) → IsAt (R.db script.old.rel) (R.saved script.old.rel)
+        script.old.commits script.old.base st → Gives (answered (session script.old.with_names
+        script.old.ack 1 statements st)) result (R.told script.old.rel) (R.told script.new.rel) }
+    ensures kept { (st : State) → IsAt (R.db script.old.rel) (R.saved script.old.rel)
+        script.old.commits script.old.base st → IsFinal result → R.db script.new.rel
+        ≡ Some (kept_after st.kept (session script.old.with_names script.old.ack 1 statements
+        st).events) }
+    ensures closed { R.saved script.new.rel ≡ [] }
     ensures ends { EndsStatements result }
-    ensures frame { Keeps M.left M.fixed machine.old machine.new }
-    ensures cause { IsCausedStatus result (M.faults machine.old) (M.faults machine.new) }
+    ensures frame { Keeps R.left R.fixed script.old.rel script.new.rel }
+    ensures cause { IsCausedStatus result (R.faults script.old.rel) (R.faults script.new.rel) }
 {
     event_laws();
+    session_laws();
     let mut number = 0;
     'statements: for statement in statements.into_vec() {
         number += 1;
-        let done = step(alloc, rel, machine, &statement, with_names);
+        let done = script.step(&statement);
         drop(statement);
         match done {
             Ok(()) => {}
-            Err(fault) => {
-                rel.rollback();
-                return stop_status(number, fault);
-            }
+            Err(fault) => return stop_status(number, fault),
         }
     }
-    commit(rel)
+    match script.finish() {
+        Ok(()) => Status::Done,
+        Err(fault) => stop_status(number + 1, fault),
+    }
 }
 
-/// Carries out statements in turn, from no tables, up to the first that is refused.
-fn carry_out<M: Shows>(
+/// Carries out statements in turn on tables that tell their database, of which there are none yet, up to the first that is
+/// refused.
+///
+/// The tables are then those of the last outermost commit, unless a device failed or memory ran out.
+fn carry_out<R: Rel>(alloc: Global, options: Options, rel: R, statements: Statements) -> (R, Status)
+    requires ready { IsTrue (R.is_ready rel) }
+    requires closed { R.saved rel ≡ [] }
+    requires empty { R.db rel ≡ Some empty_db }
+    requires limit { R.limit rel ≡ None }
+    requires read { All IsReadBack statements }
+    ensures gives { Gives (answered (course_of options statements)) result.1 (R.told rel)
+        (R.told result.0) }
+    ensures kept { IsFinal result.1 → R.db result.0
+        ≡ Some (kept_after empty_db (course_of options statements).events) }
+    ensures ended { R.saved result.0 ≡ [] }
+    ensures ends { EndsStatements result.1 }
+    ensures frame { Keeps R.left R.fixed rel result.0 }
+    ensures cause { IsCausedStatus result.1 (R.faults rel) (R.faults result.0) }
+{
+    let mut script = Session::new(alloc, rel, options.bare, false, options.with_names);
+    let status = match script.start() {
+        Ok(()) => carry_on(&mut script, statements),
+        Err(_) => Status::NoMemory,
+    };
+    (script.into_rel(), status)
+}
+
+/// Carries out statements in turn on tables in memory, whose text the machine shows.
+fn carry_out_on<M: Shows>(
     alloc: Global,
     options: Options,
-    machine: &mut M,
+    machine: M,
     statements: Statements,
-) -> Status
+) -> (M, Status)
     requires { All IsReadBack statements }
-    ensures gives { Gives (answered (course_of options statements)) result (M.told machine.old)
-        (M.told machine.new) }
-    ensures warned { warned_of (M.told machine.new) ≡ warned_of (M.told machine.old) }
-    ensures ends { EndsStatements result }
-    ensures frame { Keeps M.left M.fixed machine.old machine.new }
-    ensures cause { IsCausedStatus result (M.faults machine.old) (M.faults machine.new) }
+    ensures gives { Gives (answered (course_of options statements)) result.1 (M.told machine)
+        (M.told result.0) }
+    ensures warned { warned_of (M.told result.0) ≡ warned_of (M.told machine) }
+    ensures ends { EndsStatements result.1 }
+    ensures frame { Keeps M.left M.fixed machine result.0 }
+    ensures cause { IsCausedStatus result.1 (M.faults machine) (M.faults result.0) }
 {
-    let mut rel = MemRel::new(alloc);
-    match rel.begin() {
-        Ok(()) => carry_on(alloc, &mut rel, machine, statements, options.with_names),
-        Err(_) => Status::NoMemory,
-    }
+    let tables = MemRel::new(alloc);
+    let (pair, status) = carry_out(alloc, options, Pair { tables, machine }, statements);
+    (pair.machine, status)
 }
 
 /// Carries out a script that is not too long. Its bytes are let go before its first statement is carried out.
 fn answer_script<M: Shows>(
     alloc: Global,
     options: Options,
-    machine: &mut M,
+    machine: M,
     source: Bytes,
-) -> Status
+) -> (M, Status)
     requires { length source ≤ longest_script }
     ensures gives { (outcome : Result (List Statement) ScriptFault) → Comes source outcome
-        → Gives (answer_of options outcome) result (M.told machine.old) (M.told machine.new) }
-    ensures means { IsFinal result → (outcome : Result (List Statement) ScriptFault)
-        × Comes source outcome × (result ≡ (answer_of options outcome).status) }
-    ensures silent { IsRefusedWhole result → M.told machine.new ≡ M.told machine.old }
-    ensures shows { ShowsText (M.told machine.old) (M.told machine.new) }
-    ensures warned { warned_of (M.told machine.new) ≡ warned_of (M.told machine.old) }
-    ensures ends { EndsScript result }
-    ensures frame { Keeps M.left M.fixed machine.old machine.new }
-    ensures cause { IsCausedStatus result (M.faults machine.old) (M.faults machine.new) }
+        → Gives (answer_of options outcome) result.1 (M.told machine) (M.told result.0) }
+    ensures means { IsFinal result.1 → (outcome : Result (List Statement) ScriptFault)
+        × Comes source outcome × (result.1 ≡ (answer_of options outcome).status) }
+    ensures silent { IsRefusedWhole result.1 → M.told result.0 ≡ M.told machine }
+    ensures shows { ShowsText (M.told machine) (M.told result.0) }
+    ensures warned { warned_of (M.told result.0) ≡ warned_of (M.told machine) }
+    ensures ends { EndsScript result.1 }
+    ensures frame { Keeps M.left M.fixed machine result.0 }
+    ensures cause { IsCausedStatus result.1 (M.faults machine) (M.faults result.0) }
 {
     let read = read_statements(alloc, source.as_slice());
     drop(source);
     match read {
-        Ok(statements) => carry_out(alloc, options, machine, statements),
-        Err(status) => status,
+        Ok(statements) => carry_out_on(alloc, options, machine, statements),
+        Err(status) => (machine, status),
     }
 }
 
@@ -199,55 +220,56 @@ fn answer_command<M: Machine>(
     alloc: Global,
     options: Options,
     command: Command,
-    machine: &mut M,
-) -> Status
-    ensures gives { (answer : Answer) → Means options command (M.left machine.old) answer
-        → Gives answer result (M.told machine.old) (M.told machine.new) }
-    ensures means { TellsScript command (M.left machine.old) → IsFinal result
-        → (answer : Answer) × Means options command (M.left machine.old) answer
-        × (result ≡ answer.status) }
-    ensures usage { (word : ℕ) → command ≡ asked.Usage word → result ≡ ended.Usage word }
-    ensures usage_only { (word : ℕ) → result ≡ ended.Usage word → command ≡ asked.Usage word }
-    ensures silent { IsRefusedWhole result → M.told machine.new ≡ M.told machine.old }
-    ensures shows { ShowsText (M.told machine.old) (M.told machine.new) }
-    ensures warned { warned_of (M.told machine.new) ≡ warned_of (M.told machine.old) }
-    ensures takes { Takes command result (M.left machine.old) (M.left machine.new) }
-    ensures most { TakesAtMost (longest_script + 1) (M.left machine.old) (M.left machine.new) }
-    ensures fixed { M.fixed machine.new ≡ M.fixed machine.old }
-    ensures cause { IsCausedStatus result (M.faults machine.old) (M.faults machine.new) }
+    machine: M,
+) -> (M, Status)
+    ensures gives { (answer : Answer) → Means options command (M.left machine) answer
+        → Gives answer result.1 (M.told machine) (M.told result.0) }
+    ensures means { TellsScript command (M.left machine) → IsFinal result.1
+        → (answer : Answer) × Means options command (M.left machine) answer
+        × (result.1 ≡ answer.status) }
+    ensures usage { (word : ℕ) → command ≡ asked.Usage word → result.1 ≡ ended.Usage word }
+    ensures usage_only { (word : ℕ) → result.1 ≡ ended.Usage word → command ≡ asked.Usage word }
+    ensures silent { IsRefusedWhole result.1 → M.told result.0 ≡ M.told machine }
+    ensures shows { ShowsText (M.told machine) (M.told result.0) }
+    ensures warned { warned_of (M.told result.0) ≡ warned_of (M.told machine) }
+    ensures takes { Takes command result.1 (M.left machine) (M.left result.0) }
+    ensures most { TakesAtMost (longest_script + 1) (M.left machine) (M.left result.0) }
+    ensures fixed { M.fixed result.0 ≡ M.fixed machine }
+    ensures cause { IsCausedStatus result.1 (M.faults machine) (M.faults result.0) }
 {
-    match take_script(alloc, command, machine) {
+    let mut machine = machine;
+    match take_script(alloc, command, &mut machine) {
         Ok(source) => answer_script(alloc, options, machine, source),
-        Err(status) => status,
+        Err(status) => (machine, status),
     }
 }
 
 /// Reads the words, and does what they ask for.
-fn answer<M: Machine>(alloc: Global, words: &[String], machine: &mut M) -> Status
+fn answer<M: Machine>(alloc: Global, words: &[String], machine: M) -> (M, Status)
     ensures gives { (answer : Answer) → Means (options_of (map string_bytes words.now))
-        (command_of (map string_bytes words.now)) (M.left machine.old) answer
-        → Gives answer result (M.told machine.old) (M.told machine.new) }
-    ensures means { TellsScript (command_of (map string_bytes words.now)) (M.left machine.old)
-        → IsFinal result
+        (command_of (map string_bytes words.now)) (M.left machine) answer
+        → Gives answer result.1 (M.told machine) (M.told result.0) }
+    ensures means { TellsScript (command_of (map string_bytes words.now)) (M.left machine)
+        → IsFinal result.1
         → (answer : Answer) × Means (options_of (map string_bytes words.now))
-        (command_of (map string_bytes words.now)) (M.left machine.old) answer
-        × (result ≡ answer.status) }
+        (command_of (map string_bytes words.now)) (M.left machine) answer
+        × (result.1 ≡ answer.status) }
     ensures usage { (word : ℕ) → command_of (map string_bytes words.now) ≡ asked.Usage word
-        → (result ≡ ended.Usage word) ⊎ (result ≡ ended.NoMemory) }
-    ensures usage_only { (word : ℕ) → result ≡ ended.Usage word
+        → (result.1 ≡ ended.Usage word) ⊎ (result.1 ≡ ended.NoMemory) }
+    ensures usage_only { (word : ℕ) → result.1 ≡ ended.Usage word
         → command_of (map string_bytes words.now) ≡ asked.Usage word }
-    ensures silent { IsRefusedWhole result → M.told machine.new ≡ M.told machine.old }
-    ensures shows { ShowsText (M.told machine.old) (M.told machine.new) }
-    ensures warned { warned_of (M.told machine.new) ≡ warned_of (M.told machine.old) }
-    ensures takes { Takes (command_of (map string_bytes words.now)) result (M.left machine.old)
-        (M.left machine.new) }
-    ensures most { TakesAtMost (longest_script + 1) (M.left machine.old) (M.left machine.new) }
-    ensures fixed { M.fixed machine.new ≡ M.fixed machine.old }
-    ensures cause { IsCausedStatus result (M.faults machine.old) (M.faults machine.new) }
+    ensures silent { IsRefusedWhole result.1 → M.told result.0 ≡ M.told machine }
+    ensures shows { ShowsText (M.told machine) (M.told result.0) }
+    ensures warned { warned_of (M.told result.0) ≡ warned_of (M.told machine) }
+    ensures takes { Takes (command_of (map string_bytes words.now)) result.1 (M.left machine)
+        (M.left result.0) }
+    ensures most { TakesAtMost (longest_script + 1) (M.left machine) (M.left result.0) }
+    ensures fixed { M.fixed result.0 ≡ M.fixed machine }
+    ensures cause { IsCausedStatus result.1 (M.faults machine) (M.faults result.0) }
 {
     match read_words(alloc, words) {
         Ok(asked) => answer_command(alloc, asked.options, asked.command, machine),
-        Err(_) => Status::NoMemory,
+        Err(_) => (machine, Status::NoMemory),
     }
 }
 
@@ -292,8 +314,8 @@ pub fn run<M: Machine>(alloc: Global, words: &Vec<String>, machine: M) -> (M, St
     ensures grows { IsAddedTo (shown_of (M.told machine)) (shown_of (M.told result.0)) }
     ensures fixed { M.fixed result.0 ≡ M.fixed machine }
 {
+    let (machine, status) = answer(alloc, words.as_slice(), machine);
     let mut machine = machine;
-    let status = answer(alloc, words.as_slice(), &mut machine);
     let status = warn(alloc, &mut machine, status);
     (machine, status)
 }

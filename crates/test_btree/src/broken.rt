@@ -138,6 +138,7 @@ fn damaged(rt: HostRuntime) -> Result<(), Fail> {
     for case in &DAMAGED {
         let mut plot = Plot::of(rt.alloc(), case.contents)?;
         assert!(rt; reads_damage(&mut plot), "{}", case.name);
+        assert!(rt; is_damage(&plot.remove(b"key")), "{}", case.name);
         assert!(rt; is_damage(&plot.set(b"key", b"")), "{}", case.name);
     }
     Ok(())
@@ -148,7 +149,16 @@ fn reads_well(plot: &mut Plot) -> bool {
     is_allowed(&plot.get(b"key")) && is_allowed(&plot.depth()) && is_allowed(&plot.listed(b"", 300))
 }
 
-/// Whether the calls that only read answer or find damage, also when a key of some bytes was set.
+/// Whether a key is removed or damage is found, and the calls that only read answer or find damage then.
+fn shrinks(plot: &mut Plot, key: &[u8]) -> bool {
+    let removed = plot.remove(key);
+    if !plot.heap.ready() {
+        return is_damage(&removed);
+    }
+    is_allowed(&removed) && reads_well(plot)
+}
+
+/// Whether the calls that only read answer or find damage, also when a key of some bytes was set, and when it was removed.
 fn goes_on(plot: &mut Plot, key: &[u8]) -> bool {
     if !reads_well(plot) {
         return false;
@@ -157,7 +167,7 @@ fn goes_on(plot: &mut Plot, key: &[u8]) -> bool {
     if !plot.heap.ready() {
         return is_damage(&set);
     }
-    is_allowed(&set) && reads_well(plot)
+    is_allowed(&set) && reads_well(plot) && shrinks(plot, key)
 }
 
 #[test]

@@ -13,3 +13,5 @@ mod nodes;
 mod plot;
 #[cfg(test)]
 mod random;
+#[cfg(test)]
+mod removal;

@@ -2,8 +2,8 @@
 ghost use Rattle.std.specs.Prelude.{◌≡◌, ◌≤◌, length, IsTrue, IfOk};
 
 use lldb_base::{Heap, MemHeap, Trouble};
-use lldb_btree::{Cursor, Tree};
-use ql_edge::{Bytes, NoMemory};
+use lldb_btree::{Cursor, Node, Tree, read_node};
+use ql_edge::{Bytes, Items, NoMemory};
 use std::alloc::Global;
 
 /// A heap with a level begun.
@@ -78,6 +78,80 @@ impl Plot {
             return Err(Trouble::Failed);
         }
         self.tree.set(self.alloc, &mut self.heap, key, value)
+    }
+
+    /// Whether a pair with a key was there and is removed.
+    pub fn remove(&mut self, key: &[u8]) -> Result<bool, Trouble> {
+        if !self.heap.ready() {
+            return Err(Trouble::Failed);
+        }
+        if self.heap.depth() == 0 {
+            return Err(Trouble::Failed);
+        }
+        self.tree.remove(self.alloc, &mut self.heap, key)
+    }
+
+    /// Destroys the tree, and answers whether the heap is empty then.
+    pub fn destroy(&mut self) -> Result<bool, Trouble> {
+        if !self.heap.ready() {
+            return Err(Trouble::Failed);
+        }
+        if self.heap.depth() == 0 {
+            return Err(Trouble::Failed);
+        }
+        self.tree.destroy(self.alloc, &mut self.heap)?;
+        Ok(self.heap.is_empty())
+    }
+
+    /// The node at a handle.
+    pub fn node(&mut self, handle: u64) -> Result<Node, Trouble> {
+        if !self.heap.ready() {
+            return Err(Trouble::Failed);
+        }
+        let mut content = Bytes::new(self.alloc);
+        self.heap.read(handle, &mut content)?;
+        match read_node(self.alloc, content.as_slice()) {
+            Ok(node) => Ok(node),
+            Err(_) => Err(Trouble::Damaged),
+        }
+    }
+
+    /// Whether a node has at least so many pairs or children, and is a leaf exactly where it is to be one. The handles of its
+    /// children are added to `below`.
+    fn is_full(
+        &mut self,
+        handle: u64,
+        least: usize,
+        is_leaf: bool,
+        below: &mut Items<u64>,
+    ) -> Result<bool, Trouble> {
+        let children = match self.node(handle)? {
+            Node::Leaf(pairs) => return Ok(is_leaf && pairs.len() >= least),
+            Node::Inner(children) => children,
+        };
+        for child in children.as_slice() {
+            below.push(child.handle)?;
+        }
+        Ok(!is_leaf && children.len() >= least)
+    }
+
+    /// Whether all nodes of the tree have entries enough, and its leaves stand at one level.
+    pub fn is_well(&mut self) -> Result<bool, Trouble> {
+        let levels = self.depth()?;
+        let mut least = if levels > 1 { 2 } else { 0 };
+        let mut handles = Items::new(self.alloc);
+        handles.push(self.tree.handle)?;
+        for level in 1..levels.saturating_add(1) {
+            let mut below = Items::new(self.alloc);
+            for handle in handles.as_slice() {
+                if !self.is_full(*handle, least, level == levels, &mut below)? {
+                    return Ok(false);
+                }
+            }
+            handles = below;
+            least = 16;
+        }
+        Ok(true)
     }
 
     /// What the tree has at a key.

@@ -100,6 +100,14 @@ impl Pairing {
         }
     }
 
+    /// Removes a key from both, and answers whether both had it or neither.
+    fn remove(&mut self, number: u32) -> Result<bool, Trouble> {
+        let alloc = self.plot.alloc;
+        let key = key_of(alloc, self.padding, number)?;
+        let had = self.plot.remove(key.as_slice())?;
+        Ok(had == self.map.remove(&number).is_some())
+    }
+
     /// Whether both have the same at a number.
     fn agrees(&mut self, number: u32) -> Result<bool, Trouble> {
         let alloc = self.plot.alloc;
@@ -122,6 +130,24 @@ impl Pairing {
             self.set(number, turn)?;
             let other = self.number();
             if !self.agrees(number)? || !self.agrees(other)? {
+                return Ok(Some(turn));
+            }
+        }
+        Ok(None)
+    }
+
+    /// Sets and removes so many random keys: more are set in the first half, and more removed in the second. It answers the
+    /// first turn in which the tree differs.
+    fn change(&mut self, turns: u32) -> Result<Option<u32>, Trouble> {
+        for turn in 0..turns {
+            let number = self.number() % 1024;
+            let sets = (self.number() % 3 == 0) == (turn > turns / 2);
+            if sets {
+                self.set(number, turn)?;
+            } else if !self.remove(number)? {
+                return Ok(Some(turn));
+            }
+            if !self.agrees(number)? || (turn % 100 == 0 && !self.plot.is_well()?) {
                 return Ok(Some(turn));
             }
         }
@@ -161,6 +187,27 @@ fn beside_a_map(rt: HostRuntime) -> Result<(), Fail> {
 #[test]
 fn beside_a_map_with_long_keys(rt: HostRuntime) -> Result<(), Fail> {
     let same = is_as_a_map(rt.alloc(), 1097, 1200)?;
+    assert!(rt; same);
+    Ok(())
+}
+
+/// Whether a tree from which keys are removed too does as an ordered map does.
+fn changes_as_a_map(alloc: Global, padding: usize, turns: u32) -> Result<bool, Trouble> {
+    let mut pairing = Pairing::new(alloc, padding)?;
+    let differs = pairing.change(turns)?.is_some();
+    Ok(!differs && pairing.plot.is_well()? && pairing.passes()?)
+}
+
+#[test]
+fn removed_beside_a_map(rt: HostRuntime) -> Result<(), Fail> {
+    let same = changes_as_a_map(rt.alloc(), 0, 4000)?;
+    assert!(rt; same);
+    Ok(())
+}
+
+#[test]
+fn removed_beside_a_map_with_long_keys(rt: HostRuntime) -> Result<(), Fail> {
+    let same = changes_as_a_map(rt.alloc(), 1097, 1500)?;
     assert!(rt; same);
     Ok(())
 }

@@ -99,6 +99,45 @@ const ROWS: [Row; 13] = [
     },
 ];
 
+const LEVEL_ROWS: [Row; 6] = [
+    Row {
+        script: LEVELS,
+        shown: LEVELS_SHOW,
+        warned: b"",
+        status: 0,
+    },
+    Row {
+        script: b"CREATE TABLE t (a int64); BEGIN TRANSACTION; INSERT INTO t VALUES (1), (2); ROLLBACK; INSERT INTO t VALUES (3); SELECT id(), a FROM t;",
+        shown: b"1, 3\n",
+        warned: b"",
+        status: 0,
+    },
+    Row {
+        script: b"CREATE TABLE t (a int64); INSERT INTO t VALUES (7); BEGIN TRANSACTION; DROP TABLE t; ROLLBACK; SELECT * FROM t;",
+        shown: b"7\n",
+        warned: b"",
+        status: 0,
+    },
+    Row {
+        script: b"BEGIN TRANSACTION; COMMIT; ROLLBACK;",
+        shown: b"",
+        warned: b"ql: statement 3: 40 NoTransaction\n",
+        status: 1,
+    },
+    Row {
+        script: b"BEGIN TRANSACTION; SELECT 1;",
+        shown: b"1\n",
+        warned: b"ql: statement 3: 42 Unbalanced\n",
+        status: 1,
+    },
+    Row {
+        script: b"BEGIN TRANSACTION; BEGIN TRANSACTION; SELECT 1; SELECT * FROM u;",
+        shown: b"1\n",
+        warned: b"ql: statement 4: 1 NoTable u\n",
+        status: 1,
+    },
+];
+
 const EXPRESSIONS: [Row; 15] = [
     Row {
         script: b"SELECT -7 / 2, -7 % 2, -9223372036854775808 / -1;",
@@ -226,6 +265,14 @@ fn carries_out_scripts(rt: HostRuntime) -> Result<(), Fail> {
 }
 
 #[test]
+fn carries_out_levels(rt: HostRuntime) -> Result<(), Fail> {
+    for row in &LEVEL_ROWS {
+        carry_out_row(&rt, row)?;
+    }
+    Ok(())
+}
+
+#[test]
 fn evaluates_expressions(rt: HostRuntime) -> Result<(), Fail> {
     for row in &EXPRESSIONS {
         carry_out_row(&rt, row)?;
@@ -296,6 +343,40 @@ fn shows_what_there_is_room_for(rt: HostRuntime) -> Result<(), Fail> {
         faults: 1,
     };
     leaves_alone(&rt, failing(rt.alloc(), script, &[], 1000, Some(3))?, &want);
+    Ok(())
+}
+
+const LEVELS: &[u8] =
+    b"BEGIN TRANSACTION; CREATE TABLE t (a int64); INSERT INTO t VALUES (10), (20); SELECT * FROM t; COMMIT; SELECT 30;";
+
+const LEVELS_SHOW: &[u8] = b"10\n20\n30\n";
+
+/// Carries out a script with levels on a machine that fails at a byte of its text.
+fn stops_inside_levels_at(
+    rt: &(impl Abort + Alloc<A = Global>),
+    room: usize,
+) -> Result<(), NoMemory>
+    requires { room < 9 }
+{
+    let want = Left {
+        shown: &LEVELS_SHOW[..room],
+        warned: b"ql: device fault\n",
+        status: 3,
+        faults: 1,
+    };
+    leaves_alone(
+        rt,
+        failing(rt.alloc(), LEVELS, &[], 1000, Some(room as u64))?,
+        &want,
+    );
+    Ok(())
+}
+
+#[test]
+fn stops_inside_levels(rt: HostRuntime) -> Result<(), Fail> {
+    for room in 0..9 {
+        stops_inside_levels_at(&rt, room)?;
+    }
     Ok(())
 }
 

@@ -1,5 +1,5 @@
 //! Statements, from their text.
-ghost use Rattle.std.specs.Prelude.{All, IsSome, IfSome, OnOk};
+ghost use Rattle.std.specs.Prelude.{◌<◌, length, All, IsTrue, IsSome, IfSome, OnOk};
 ghost use Rattle.ql_syntax.specs.ReadsBack.{IsReadBack};
 
 use crate::texts::{put, put_number};
@@ -37,6 +37,21 @@ fn read(alloc: Global, text: &[u8]) -> Option<Statement>
     }
 }
 
+/// Carries out a statement inside a level.
+fn carry_out<R: Rel>(
+    alloc: Global,
+    rel: &mut R,
+    statement: &Statement,
+    out: &mut Bytes,
+) -> Result<(), ExecFault>
+    requires ready { IsTrue (R.is_ready rel.old) }
+    requires level { 0 < length (R.saved rel.old) }
+    requires read { IsReadBack statement.now }
+    ensures { OnOk result (IsSome (R.db rel.old) → IsSome (R.db rel.new)) }
+{
+    exec(alloc, rel, statement, false, out)
+}
+
 /// Carries out the last statement of a text inside a level, and answers nothing where that is not allowed.
 pub fn run<R: Rel>(
     alloc: Global,
@@ -50,7 +65,7 @@ pub fn run<R: Rel>(
     if !rel.ready() || rel.depth() == 0 {
         return None;
     }
-    Some(exec(alloc, rel, &statement, false, out))
+    Some(carry_out(alloc, rel, &statement, out))
 }
 
 /// Carries out the last statement of a text inside a level, and shows what it answered.

@@ -8,7 +8,8 @@ use Rattle.lldb_alloc.specs.Told.{heap_told}
 use Rattle.lldb_alloc.proofs.Uses.{by_error}
 use Rattle.lldb_alloc.proofs.Lists.{refuses_more}
 use Rattle.lldb_alloc.proofs.Fulls.{not_over}
-use Rattle.lldb_alloc.proofs.Created.{part_unsound, created_within}
+use Rattle.lldb_alloc.proofs.Created.{part_unsound}
+use Rattle.lldb_alloc.proofs.Placed.{placed_within}
 use Rattle.lldb_alloc.proofs.create.create_within.Goals as goal
 
 pub returns-in_err-take_part-clause-refuses : goal.returns-in_err-take_part-clause-refuses
@@ -34,9 +35,9 @@ returns-in_err-write_used-clause-refuses g c =
     (not_over (Unit {0}) ℕ (heap_told told ≡ None) (g.F.Filer.size_of c.take_part.new.filer) (g.F.Filer.limit_of c.take_part.new.filer) (16 * c.args.at + 16 * atoms_for (length c.args.content.now))
     (omega (arith, within, same, is)) c.in_err-write_used.field-0.0 c.in_err-write_used.ensures.refuses)
 
-pub returns-clause-created : goal.returns-clause-created
-returns-clause-created g c =
+pub returns-clause-placed : goal.returns-clause-placed
+returns-clause-placed g c =
     let told : Option (List ℕ) = g.F.Filer.content c.args.filer.now in
     let mid : Option (List ℕ) = g.F.Filer.content c.take_part.new.filer in
     let takes : Turns told mid (TakesPart c.args.at (atoms_for (length c.args.content.now))) = subst (λ (k : ℕ). Turns told mid (TakesPart c.args.at k)) c.atoms_taken-atoms.ensures c.in_ok-take_part.ensures.taken in
-    created_within told mid (g.F.Filer.content c.write_used.new.filer) c.args.at (g.F.Filer.size_of c.args.filer.now) c.args.content.now (g.met.F.Filer.told_size c.args.filer.now c.requires.sound) c.requires.table c.requires.room takes c.in_ok-write_used.ensures.written
+    placed_within told mid (g.F.Filer.content c.write_used.new.filer) c.args.at c.args.content.now c.requires.room takes c.in_ok-write_used.ensures.written

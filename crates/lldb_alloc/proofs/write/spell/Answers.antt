@@ -1,4 +1,4 @@
-use Rattle.std.proofs.Common.{◌≡◌, ℕ, ◌+◌, ◌-◌, List, ◌++◌, length, take, drop, replicate, ◌∙◌, ap, arith}
+use Rattle.std.proofs.Common.{◌≡◌, ℕ, ◌-◌, List, ◌++◌, length, take, drop, replicate, ◌∙◌, ap, arith}
 use Rattle.lldb_atoms.specs.declared.block.Block.{Block}
 use Rattle.lldb_atoms.specs.Heads.{head_of}
 use Rattle.lldb_atoms.specs.Blocks.{used_head}

@@ -1,4 +1,4 @@
-use Rattle.std.proofs.Common.{◌+◌, ◌-◌, ◌∙◌, arith}
+use Rattle.std.proofs.Common.{◌-◌, ◌∙◌, arith}
 use Rattle.lldb_base.specs.Heaps.{MayBeDead}
 use Rattle.lldb_btree.proofs.Below.{NoEdit, headless}
 use Rattle.lldb_btree.proofs.Clearing.{NoClear, leaf_cleared, inner_cleared, inner_dead, inner_refused, inner_reads, firstless, first_refused, others_refused, children_cleared, first_reads, children_reads}

@@ -1,6 +1,6 @@
 -- Each part is given what it asks for, and does what the statement does.
 use Rattle.std.proofs.Common.{length, sym, ◌∙◌}
-use Rattle.ql_exec.proofs.Carried.{query_planned, create_level, create_planned, create_read, insert_level, insert_planned, insert_does, selected_later, query_does, create_does, is_other, others_do}
+use Rattle.ql_exec.proofs.Carried.{query_planned, create_level, create_planned, create_read, insert_level, insert_planned, insert_does, selecting_planned, selecting_does, query_does, create_does, is_other, others_do}
 use Rattle.ql_exec.proofs.Altered as altered
 use Rattle.ql_exec.proofs.Tabled.{drop_level, truncate_level, drop_planned, update_planned, delete_planned, truncate_planned, drop_does, truncate_does}
 use Rattle.ql_exec.proofs.statement.carry.Goals as goal
@@ -74,6 +74,30 @@ returns-in-Rows-clause-done g c =
     insert_does c.args.with_names c.args.statement.now c.in-Insert.table c.in-Insert.columns c.in-Insert.source c.get-in-Insert.result.now _ c.args.plan.now _ _ _ _
     c.in-Insert.is c.get-in-Insert.ensures c.in-Rows.is c.insert_rows.ensures.done
 
+pub insert_selected-requires-clause-level : goal.insert_selected-requires-clause-level
+insert_selected-requires-clause-level g c =
+    insert_level c.args.statement.now c.in-Insert.table _ _ (length (g.R.Rel.saved c.args.rel.now)) c.in-Insert.is c.requires.level
+
+pub insert_selected-requires-clause-table : goal.insert_selected-requires-clause-table
+insert_selected-requires-clause-table g c =
+    (selecting_planned (g.R.Rel.schema c.args.rel.now) c.args.statement.now c.in-Insert.table c.in-Insert.columns c.in-Insert.source c.get-in-Insert.result.now c.in-Query-get.select c.get-in-Query-get.result.now c.args.plan.now
+    c.in-Insert.is c.get-in-Insert.ensures c.in-Query-get.is c.get-in-Query-get.ensures c.requires.plan).there
+
+pub insert_selected-requires-clause-sets : goal.insert_selected-requires-clause-sets
+insert_selected-requires-clause-sets g c =
+    (selecting_planned (g.R.Rel.schema c.args.rel.now) c.args.statement.now c.in-Insert.table c.in-Insert.columns c.in-Insert.source c.get-in-Insert.result.now c.in-Query-get.select c.get-in-Query-get.result.now c.args.plan.now
+    c.in-Insert.is c.get-in-Insert.ensures c.in-Query-get.is c.get-in-Query-get.ensures c.requires.plan).sets
+
+pub insert_selected-requires-clause-typed : goal.insert_selected-requires-clause-typed
+insert_selected-requires-clause-typed g c =
+    (selecting_planned (g.R.Rel.schema c.args.rel.now) c.args.statement.now c.in-Insert.table c.in-Insert.columns c.in-Insert.source c.get-in-Insert.result.now c.in-Query-get.select c.get-in-Query-get.result.now c.args.plan.now
+    c.in-Insert.is c.get-in-Insert.ensures c.in-Query-get.is c.get-in-Query-get.ensures c.requires.plan).typed
+
+pub returns-in-Query-get-clause-done : goal.returns-in-Query-get-clause-done
+returns-in-Query-get-clause-done g c =
+    selecting_does c.args.with_names c.args.statement.now c.in-Insert.table c.in-Insert.columns c.in-Insert.source c.get-in-Insert.result.now c.in-Query-get.select c.get-in-Query-get.result.now c.args.plan.now _ _ _ _
+    c.in-Insert.is c.get-in-Insert.ensures c.in-Query-get.is c.get-in-Query-get.ensures c.insert_selected.ensures.done
+
 pub drop_table-requires-clause-level : goal.drop_table-requires-clause-level
 drop_table-requires-clause-level g c = drop_level c.args.statement.now c.in-DropTable.quiet c.in-DropTable.table (length (g.R.Rel.saved c.args.rel.now)) c.in-DropTable.is c.requires.level
 
@@ -114,5 +138,5 @@ returns-in-Truncate-clause-done g c =
 
 pub returns-in_default-clause-done : goal.returns-in_default-clause-done
 returns-in_default-clause-done g c =
-    others_do (Unit {0}) c.args.with_names c.args.statement.now c.args.plan.now c.refusal-in_default.result _ _ _ _ c.refusal-in_default.ensures
+    others_do (Unit {0}) c.args.with_names c.args.statement.now c.args.plan.now c.refusal.result _ _ _ _ c.refusal.ensures
     (is_other c.args.statement.now c.in_default.not-Query c.in_default.not-CreateTable c.in_default.not-DropTable c.in_default.not-AddColumn c.in_default.not-DropColumn c.in_default.not-Insert c.in_default.not-Update c.in_default.not-Delete c.in_default.not-Truncate)

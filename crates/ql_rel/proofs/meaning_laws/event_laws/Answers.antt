@@ -1,4 +1,4 @@
-use Rattle.ql_rel.proofs.EventLemmas.{places_rise, places_each, told_none, told_all, told_more, texts_join, commits_join, commit_once, kept_join}
+use Rattle.ql_rel.proofs.EventLemmas.{places_rise, places_each, told_none, told_all, told_more, texts_join, commits_join, kept_join}
 use Rattle.ql_rel.proofs.meaning_laws.event_laws.Goals as goal
 
 pub returns : goal.returns
@@ -10,6 +10,5 @@ returns c = record {
   more = told_more;
   texts = texts_join;
   commits = commits_join;
-  once = commit_once;
   kept = kept_join;
 }

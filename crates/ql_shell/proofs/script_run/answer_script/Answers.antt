@@ -4,7 +4,7 @@ use Rattle.ql_shell.proofs.Meanings.{means_unread}
 use Rattle.ql_shell.proofs.script_run.answer_script.Goals as goal
 
 pub returns-in-Ok-clause-shows : goal.returns-in-Ok-clause-shows
-returns-in-Ok-clause-shows g c = gives_shows _ _ _ _ c.carry_out.ensures.gives
+returns-in-Ok-clause-shows g c = gives_shows _ _ _ _ c.carry_out_on.ensures.gives
 
 pub returns-in-Err-clause-shows : goal.returns-in-Err-clause-shows
 returns-in-Err-clause-shows g c = shows_nothing _

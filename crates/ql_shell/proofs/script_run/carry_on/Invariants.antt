@@ -1,10 +1,9 @@
-use Rattle.std.proofs.Common.{◌≡◌, ◌+◌, ◌<◌, ◌^◌, false, length, Some}
-use Rattle.std.specs.Prelude.{All, IsTrue}
+use Rattle.std.proofs.Common.{◌≡◌, ◌+◌, ◌≤◌, ◌<◌, ◌^◌, length}
+use Rattle.std.specs.Prelude.{All}
 use Rattle.std.specs.Vec.Iter.{into_iter_items, into_iter_len}
-use Rattle.ql_edge.specs.Frame.{Keeps}
 use Rattle.ql_syntax.specs.ReadsBack.{IsReadBack}
-use Rattle.ql_rel.specs.Courses.{course}
-use Rattle.ql_mem_rel.specs.Kept.{db_of, saved_of}
+use Rattle.ql_rel.specs.Sessions.{State, session}
+use Rattle.ql_shell.specs.Goings.{IsAt, LeavesRest, MayGoOn}
 use Rattle.ql_shell.specs.Pieces.{RunsFrom}
 use Rattle.ql_shell.proofs.script_run.carry_on.Given as goal
 
@@ -15,10 +14,14 @@ invariant-statements g l = record {
   items : into_iter_len l.statement-iterator ≡ length (into_iter_items l.statement-iterator);
   counted : l.number + into_iter_len l.statement-iterator ≡ length l.fn.statements;
   small : length l.fn.statements < 2 ^ 63;
-  ready : IsTrue l.rel.ready;
-  level : 0 < length (saved_of l.rel.saved.items);
+  commits : l.script.commits ≤ l.number;
+  on : MayGoOn (g.R.Rel.is_ready l.script.rel) (g.R.Rel.saved l.script.rel) l.script.base;
   read : All IsReadBack (into_iter_items l.statement-iterator);
-  runs : RunsFrom l.fn.with_names (course l.fn.with_names false 1 l.fn.statements (db_of l.fn.rel.present)) (g.M.Shows.told l.fn.machine) (g.M.Shows.told l.machine) (l.number + 1) (into_iter_items l.statement-iterator) (Some (db_of l.rel.present));
-  frame : Keeps g.M.Shows.left g.M.Shows.fixed l.fn.machine l.machine;
-  faults : g.M.Shows.faults l.machine ≡ g.M.Shows.faults l.fn.machine;
+  runs : (st : State) → IsAt (g.R.Rel.db l.fn.script.rel) (g.R.Rel.saved l.fn.script.rel) l.fn.script.commits l.fn.script.base st
+      → RunsFrom l.fn.script.with_names l.fn.script.ack (session l.fn.script.with_names l.fn.script.ack 1 l.fn.statements st) st.kept (g.R.Shows.told l.fn.script.rel) (g.R.Shows.told l.script.rel) (l.number + 1) (into_iter_items l.statement-iterator)
+      (g.R.Rel.db l.script.rel) (g.R.Rel.saved l.script.rel) l.script.commits l.script.base;
+  ack : l.script.ack ≡ l.fn.script.ack;
+  with_names : l.script.with_names ≡ l.fn.script.with_names;
+  leaves : LeavesRest g.R.Rel.limit g.R.Shows.left g.R.Shows.fixed l.fn.script.rel l.script.rel;
+  faults : g.R.Shows.faults l.script.rel ≡ g.R.Shows.faults l.fn.script.rel;
 }
