@@ -31,3 +31,5 @@ pub mod CreateLemmas
 pub mod AlteredLemmas
 pub mod AlteredColumns
 pub mod Gathered
+pub mod Orders
+pub mod RowOrders

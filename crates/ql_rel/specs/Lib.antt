@@ -23,6 +23,8 @@ pub mod TablePlans
 pub mod ChangePlans
 pub mod StatementPlans
 pub mod RowLists
+pub mod RowOrder
+pub mod RowOrderLaws
 pub mod SelectRows
 pub mod Refused
 pub mod ChangeEffects

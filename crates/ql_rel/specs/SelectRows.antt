@@ -1,5 +1,5 @@
 -- The rows that a SELECT shows, by its plan.
-use Rattle.std.specs.Prelude.{ℕ, ℤ, pos, negsuc, ◌==◌, Bool, true, false, not, ◌&&◌, if◌then◌else◌, List, [], ◌∷◌, ◌++◌, length, map, flat_map, Option, Some, None, Ok}
+use Rattle.std.specs.Prelude.{ℕ, ℤ, pos, negsuc, Bool, true, false, if◌then◌else◌, List, [], ◌∷◌, ◌++◌, map, flat_map, Option, Some, None, Ok}
 use Rattle.ql_value.specs.declared.refusal.TheConstants.{LATER, NEGATIVE_COUNT}
 use Rattle.ql_value.specs.declared.value.Kind.TheVariants as k
 use Rattle.ql_value.specs.declared.value.Value.{Value}
@@ -16,11 +16,13 @@ use Rattle.ql_syntax.specs.declared.typed.Typed.{Typed}
 use Rattle.ql_rel.specs.declared.db.Db.{Db}
 use Rattle.ql_rel.specs.declared.db.Row.{Row}
 use Rattle.ql_rel.specs.declared.plan.Plan.{Plan}
+use Rattle.ql_rel.specs.declared.select.KeyedRow.{KeyedRow}
 use Rattle.ql_rel.specs.declared.select.ResultRow.{ResultRow}
 use Rattle.ql_syntax.specs.Answers.{Answer, refused, then_with, all_of}
 use Rattle.ql_rel.specs.Databases.{schema_of, rows_at}
 use Rattle.ql_rel.specs.NewNames.{place_named}
 use Rattle.ql_rel.specs.RowLists.{window}
+use Rattle.ql_rel.specs.RowOrder.{first_ones, sorted}
 use Rattle.ql_rel.specs.Rows.{row_line, answer_of, values_of, is_meant}
 use Rattle.ql_syntax.specs.Values.{value_at}
 
@@ -76,23 +78,40 @@ results fields rows = all_of (map (result_at fields) rows)
 abbrev pub results_of : Plan → List (List Value) → Answer (List ResultRow)
 results_of p rows = if p.grouped then refused LATER else results p.fields rows
 
--- the rows are shown in the order in which they come, and each of them: there is neither DISTINCT nor ORDER BY
-abbrev pub is_in_turn : Bool → Plan → Bool
-is_in_turn distinct p = not distinct && length p.keys == 0
+-- a row of a result without the row that it is of, which DISTINCT hides: NULLs stand in its place
+abbrev pub hidden : ResultRow → ResultRow
+hidden x = record { source = map (λ (_ : Value). v.Null) x.source; values = x.values }
 
--- the rows that are shown of those of a FROM: of those that WHERE means the fields, and of these a part
-abbrev pub shown_of : Option ℕ → Option ℕ → Plan → List (List Value) → Answer (List (List Value))
-shown_of limit offset p rows =
+-- DISTINCT: of the rows that show the same, the first one
+abbrev pub distinct_of : Bool → List ResultRow → List ResultRow
+distinct_of false rows = rows
+distinct_of true rows = map hidden (first_ones [] rows)
+
+-- a row of a result with its keys, which see the row that it is of, followed by its values
+abbrev pub keyed_row : List Typed → ResultRow → Answer KeyedRow
+keyed_row keys x = then_with (values_of (x.source ++ x.values) keys) (λ values. Ok (record { keys = values; values = x.values }))
+
+-- the keys of each row, or the first refusal, row by row and in each from left to right
+abbrev pub keyed : List Typed → List ResultRow → Answer (List KeyedRow)
+keyed keys rows = all_of (map (keyed_row keys) rows)
+
+-- ORDER BY: what the rows show, in order
+abbrev pub ordered : Bool → List Typed → List ResultRow → Answer (List (List Value))
+ordered descending keys rows = then_with (keyed keys rows) (λ list. Ok (map (λ (x : KeyedRow). x.values) (sorted descending list)))
+
+-- the rows that are shown of those of a FROM: of those that WHERE means the fields, told apart and in order, and of these a part
+abbrev pub shown_of : (distinct descending : Bool) (limit offset : Option ℕ) → Plan → List (List Value) → Answer (List (List Value))
+shown_of distinct descending limit offset p rows =
     then_with (filtered p.filter rows) (λ meant.
-    then_with (results_of p meant) (λ shown. Ok (window offset limit (map (λ (x : ResultRow). x.values) shown))))
+    then_with (results_of p meant) (λ found.
+    then_with (ordered descending p.keys (distinct_of distinct found)) (λ list. Ok (window offset limit list))))
 
--- the rows that a SELECT shows: LIMIT, OFFSET, FROM, then its rows; DISTINCT and ORDER BY are not built yet
+-- the rows that a SELECT shows: LIMIT, OFFSET, FROM, then its rows
 abbrev pub shown_rows : Db → Select → Plan → Answer (List (List Value))
 shown_rows db select p =
-    if is_in_turn (out-Select select).distinct p then
     then_with (count_of p.limit) (λ limit.
     then_with (count_of p.offset) (λ offset.
-    then_with (from_rows db (out-Select select).sets) (shown_of limit offset p))) else refused LATER
+    then_with (from_rows db (out-Select select).sets) (shown_of (out-Select select).distinct (out-Select select).descending limit offset p)))
 
 -- the names of the fields as a row of strings, where they are asked for
 abbrev pub heading : Bool → List (List ℕ) → List ℕ

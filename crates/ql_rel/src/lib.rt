@@ -24,12 +24,14 @@ pub use db::{Db, Row, Rows, Table, Tables};
 pub use fault::RelFault;
 pub use fitting::is_row_of;
 pub use laws::{change_laws, form_laws};
-pub use meaning_laws::{event_laws, plan_laws};
+pub use meaning_laws::{event_laws, plan_laws, row_order_laws};
 pub use plan::Plan;
 pub use rel::Rel;
 pub use schema::{Index, Indexes, Schema, TableSchema, TableSchemas};
 pub use schema_copy::{
     add_columns, add_tables, copy_column, copy_index, copy_name, copy_schema, copy_table,
 };
-pub use select::{Limits, Output, ResultField, ResultFields, ResultRow, Selected, Source};
+pub use select::{
+    KeyedRow, Limits, Output, ResultField, ResultFields, ResultRow, Selected, Source,
+};
 pub use text_limit::is_past_text;

@@ -58,3 +58,10 @@ pub struct ResultRow {
     pub source: Values,
     pub values: Values,
 }
+
+/// A row of the result of a SELECT with the values of its ORDER BY.
+#[derive(Debug, Drop)]
+pub struct KeyedRow {
+    pub keys: Values,
+    pub values: Values,
+}
