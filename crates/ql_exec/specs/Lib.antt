@@ -1,6 +1,8 @@
 pub mod Answers
 pub mod Carries
 pub mod Scans
+pub mod OrderFacts
+pub mod Seen
 pub mod Turns
 pub mod Windows
 pub mod RowChanges

@@ -4,12 +4,14 @@
 mod alter;
 mod change;
 mod create;
+mod distinct;
 mod drop;
 mod execution;
 mod fault;
 mod insert;
 mod laws;
 mod limits;
+mod order_by;
 mod query;
 mod select;
 mod source;

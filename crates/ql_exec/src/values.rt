@@ -1,6 +1,6 @@
 //! The values of expressions.
 
-ghost use Rattle.std.specs.Prelude.{IfSome};
+ghost use Rattle.std.specs.Prelude.{◌≡◌, ◌++◌, IfSome, OnOk};
 ghost use Rattle.ql_syntax.specs.Typing.{WellTyped};
 ghost use Rattle.ql_syntax.specs.Values.{value_at};
 ghost use Rattle.ql_rel.specs.Rows as spec;
@@ -9,8 +9,9 @@ ghost use Rattle.ql_exec.specs.Answers.{Answers, AreTypedAt};
 use crate::ExecFault;
 use crate::fault::refusal;
 use lldb_base::Trouble;
+use ql_edge::NoMemory;
 use ql_eval::{EvalFault, Typed, Typeds, eval};
-use ql_value::{DIVIDE, NEGATIVE_COUNT, RANGE, Value, Values};
+use ql_value::{DIVIDE, NEGATIVE_COUNT, RANGE, Value, Values, copy_value};
 use std::alloc::Global;
 
 /// The value of an expression at a row.
@@ -52,4 +53,14 @@ pub(crate) fn values_of(alloc: Global, exprs: &Typeds, row: &[Value]) -> Result<
         values.push(value_of(alloc, expr, row)?)?;
     }
     Ok(values)
+}
+
+/// Adds copies of values to a row.
+pub(crate) fn add_copies(alloc: Global, values: &[Value], row: &mut Values) -> Result<(), NoMemory>
+    ensures { OnOk result (row.new ≡ row.old ++ values.now) }
+{
+    'values: for value in values {
+        row.push(copy_value(alloc, value)?)?;
+    }
+    Ok(())
 }

@@ -214,10 +214,12 @@ among_last o xs lists = among_more xs lists xs ∙ ap (λ (c : Bool). is_among x
   right : (b : Bool) → (b || true) ≡ true
   right true = refl
   right false = refl
+
   itself : (o : Ordering) → o ≡ ordering_reverse o → is_eq o ≡ true
   itself Less h = absurd (cc)
   itself Equal h = refl
   itself Greater h = absurd (cc)
+
   same_self : (o : IsTotalOrder compared) → (xs : List Value) → are_same xs xs ≡ true
   same_self o xs = itself (compared_lists xs xs) ((lists_order o).antisymm xs xs)
 

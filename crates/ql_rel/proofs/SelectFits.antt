@@ -160,6 +160,10 @@ at_row : (row : List Typing) (trees : List Typed) → AreTyped (type_by false ro
 at_row row [] h = tt
 at_row row (x ∷ trees) h = (subst IsTyped (row_type row x) h.0, at_row row trees h.1)
 
+same_at_row : (row : List Typing) (trees : List Typed) → map (type_by false row) trees ≡ map (type_of row) trees
+same_at_row row [] = refl
+same_at_row row (x ∷ trees) = ap (λ t. t ∷ map (type_by false row) trees) (row_type row x) ∙ ap (λ ts. type_of row x ∷ ts) (same_at_row row trees)
+
 same_length : (slots : List Slot) → length (slot_types slots) ≡ length slots
 same_length [] = refl
 same_length (x ∷ slots) = ap suc (same_length slots)
@@ -265,6 +269,7 @@ whole_fits kinds row x trees targets f comes plain = record {
   filter = f.filter;
   groups = f.groups;
   fields = λ e. at_row row trees (let own = plain (right_false (is_some_list x.groups) (any_field_aggregate x.output.fields) (f.output.grouped ∙ e)) in come_typed (type_by false row) (field_slots kinds x.output.fields) trees own.types own.typed);
+  plain = λ e. let own = plain (right_false (is_some_list x.groups) (any_field_aggregate x.output.fields) (f.output.grouped ∙ e)) in sym comes.types ∙ own.types ∙ same_at_row row trees;
   group_fields = come_typed (type_in_group row) (field_slots kinds x.output.fields) trees comes.types comes.typed;
   keys = f.output.keys trees comes;
   limit = f.limits.limit;

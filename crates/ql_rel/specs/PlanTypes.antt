@@ -36,12 +36,13 @@ AreTyped type (e ∷ list) = IsTyped (type e) × AreTyped type list
 abbrev pub IsFilter : List Typing → Option Typed → Type 0
 IsFilter row filter = IfSome filter (λ e. IsTyped (among is_truth (type_of row e)))
 
--- the expressions of a SELECT's plan have types at the rows of its record sets: a condition that of truths, a limit that of integers; fields where there is no grouping, and else in the group; and the keys at a row followed by the values of the fields
+-- the expressions of a SELECT's plan have types at the rows of its record sets: a condition that of truths, a limit that of integers; fields where there is no grouping, which have the same types in the group, and else in the group; and the keys at a row followed by the values of the fields
 pub record SelectTyped (row : List Typing) (plan : Plan) : Type 0 where
   pub filter : IfSome plan.filter (λ e. IsTyped (among is_truth (type_of row e)))
   pub groups : AreTyped (type_of row) plan.groups
   pub fields : plan.grouped ≡ false → AreTyped (type_of row) plan.fields
   pub group_fields : AreTyped (type_in_group row) plan.fields
+  pub plain : plan.grouped ≡ false → map (type_in_group row) plan.fields ≡ map (type_of row) plan.fields
   pub keys : AreTyped (type_of (row ++ map (type_in_group row) plan.fields)) plan.keys
   pub limit : IfSome plan.limit (λ e. IsTyped (among is_integer (type_of [] e)))
   pub offset : IfSome plan.offset (λ e. IsTyped (among is_integer (type_of [] e)))

@@ -32,6 +32,7 @@ pub use schema_copy::{
     add_columns, add_tables, copy_column, copy_index, copy_name, copy_schema, copy_table,
 };
 pub use select::{
-    KeyedRow, Limits, Output, ResultField, ResultFields, ResultRow, Selected, Source,
+    KeyedRow, KeyedRows, Limits, Output, ResultField, ResultFields, ResultRow, ResultRows,
+    Selected, Source,
 };
 pub use text_limit::is_past_text;

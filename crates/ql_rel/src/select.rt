@@ -59,9 +59,15 @@ pub struct ResultRow {
     pub values: Values,
 }
 
+/// The rows of the result of a SELECT.
+pub type ResultRows = Items<ResultRow>;
+
 /// A row of the result of a SELECT with the values of its ORDER BY.
 #[derive(Debug, Drop)]
 pub struct KeyedRow {
     pub keys: Values,
     pub values: Values,
 }
+
+/// The rows of the result of a SELECT with those values.
+pub type KeyedRows = Items<KeyedRow>;
