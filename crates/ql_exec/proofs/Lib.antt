@@ -31,3 +31,6 @@ pub mod AlteredRead
 pub mod Altered
 pub mod LawfulColumns
 pub mod LawfulEffects
+mod Resulted
+mod Collected
+mod KnownRows

@@ -1,9 +1,11 @@
 -- The text of a SELECT, from the rows of its FROM.
-use Rattle.std.proofs.Common.{◌≡◌, ℕ, zero, suc, List, [], ◌++◌, map, Option, Some, None, IfSome, Result, Ok, Err, refl, sym, ap, subst, ◌∙◌, append-nil}
+use Rattle.std.proofs.Common.{◌≡◌, ◌≤◌, ℕ, zero, suc, List, [], ◌∷◌, ◌++◌, length, drop, map, Option, Some, None, IfSome, Result, Ok, Err, refl, sym, ap, subst, ◌∙◌, append-nil}
 use Rattle.std.specs.Prelude.{IsErrAnd}
+use Rattle.std.proofs.lemmas.List.{drop_all}
 use Rattle.ql_value.specs.declared.refusal.Refusal.{Refusal}
 use Rattle.ql_value.specs.declared.value.Value.{Value}
 use Rattle.ql_rel.specs.declared.db.Db.{Db}
+use Rattle.ql_rel.specs.declared.select.KeyedRow.{KeyedRow}
 use Rattle.ql_rel.specs.declared.select.ResultRow.{ResultRow}
 use Rattle.ql_syntax.specs.Answers.{Answer, then_with}
 use Rattle.ql_rel.specs.RowLists.{at_most, window}
@@ -65,3 +67,7 @@ text_stops T w v whole now left f (Ok u) first text new (Some d) p i e g c = abs
 text_stops T w v whole now left f (Err q) first text new (Some d) p i e g c =
     subst (λ (z : ExecFault). AddsText {T = T} (then_with (whole d) (result_lines w)) (Err z) first new) (sym i)
     (stops_by T w v (whole d) (now d) (left d) f first text new g (told_back (λ d. Comes (now d) (Err f) (left d)) (Some d) p e c))
+
+-- the text of no further row
+pub each_shown : (v : Window) (text whole : List ℕ) (rows : List KeyedRow) (i : ℕ) → length rows ≤ i → text ++ shown_lines v (map (λ (x : KeyedRow). x.values) (drop i rows)) ≡ whole → text ≡ whole
+each_shown v text whole rows i l e = sym (ap (λ (xs : List KeyedRow). text ++ shown_lines v (map (λ (x : KeyedRow). x.values) xs)) (drop_all i rows l) ∙ nothing v text) ∙ e

@@ -2,7 +2,6 @@
 use Rattle.std.specs.Ordering.{Ordering-set}
 use Rattle.std.specs.Cmp.{IsTotalOrder}
 use Rattle.std.specs.declared.cmp.Ordering.{Ordering}
-.{IsProp}
 
 -- an order that is total is so in one way
 pub total_once : {K : Type 0} {R : K → K → Ordering} → IsProp (IsTotalOrder R)

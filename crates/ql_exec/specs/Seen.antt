@@ -1,14 +1,13 @@
 -- What rows show, by the order of values.
 use Rattle.std.specs.Prelude.{◌≡◌, List, map}
-use Rattle.std.specs.BTreeSet.{contains}
+use Rattle.std.specs.BTreeSet.{BTreeSet, contains}
 use Rattle.std.specs.Cmp.{IsTotalOrder}
 use Rattle.std.specs.Cmp.Lexicographic.{lists_total}
-use Rattle.std.specs.Layout.BTreeSet.{BTreeSet}
 use Rattle.std.specs.declared.cmp.Ordering.{Ordering}
 use Rattle.ql_value.specs.declared.value.Value.{Value}
 use Rattle.ql_rel.specs.declared.select.ResultRow.{ResultRow}
 use Rattle.ql_rel.specs.RowOrder.{compared_lists, is_among}
-use Rattle.ql_exec.specs.declared.distinct.Shown.{Shown}
+use Rattle.ql_exec.specs.declared.known.Shown.{Shown}
 
 -- the order of what rows show
 abbrev pub shown_cmp : Shown → Shown → Ordering

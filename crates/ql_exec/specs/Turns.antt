@@ -6,6 +6,7 @@ use Rattle.ql_value.specs.declared.value.Value.{Value}
 use Rattle.ql_syntax.specs.declared.typed.Typed.{Typed}
 use Rattle.ql_syntax.specs.declared.typing.Typing.{Typing}
 use Rattle.ql_syntax.specs.Answers.{Answer, refused, then_with}
+use Rattle.ql_syntax.specs.Typing.{FitsRow, type_of}
 use Rattle.ql_rel.specs.declared.db.Db.{Db}
 use Rattle.ql_rel.specs.declared.schema.Schema.{Schema}
 use Rattle.ql_rel.specs.declared.select.ResultRow.{ResultRow}
@@ -44,6 +45,10 @@ Rises before now = (before < now) × (now < 2 ^ 64)
 -- the rows of a result that are left: those that a condition means, and then their fields
 abbrev pub results_left : Option Typed → List Typed → List (List Value) → Answer (List ResultRow)
 results_left filter fields rows = then_with (filtered filter rows) (results fields)
+
+-- a row of a result has the types of the row that it is of, and its values those of the fields
+abbrev pub FitsResult : List Typing → List Typed → ResultRow → Type 0
+FitsResult types fields x = FitsRow types x.source × FitsRow (map (type_of types) fields) x.values
 
 -- the first member of a list and what is left of it, or that there is none, or a refusal; or trouble comes in place of each
 abbrev pub Comes : {A : Type 0} → Answer (List A) → Result (Option A) ExecFault → Answer (List A) → Type 0

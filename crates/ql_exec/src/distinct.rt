@@ -1,69 +1,19 @@
 //! DISTINCT.
 
-ghost use Rattle.std.specs.Prelude.{◌≡◌, List, ◌∷◌, ◌++◌, Some, map, replicate, IfOk, OnOk, refl};
-ghost use Rattle.std.specs.Cmp.{IsTotalOrder, partial_equiv_from_equiv, partial_order_from_total, eq_by_cmp_equiv};
-ghost use Rattle.std.specs.Ordering.{eq_by_cmp, as_partial_cmp};
-ghost use Rattle.ql_value.specs.Order.{compared};
+ghost use Rattle.std.specs.Prelude.{◌≡◌, List, ◌∷◌, ◌++◌, true, map, IfOk, OnOk};
 ghost use Rattle.ql_value.specs.declared.value.Value.TheVariants as v;
 ghost use Rattle.ql_rel.specs.declared.select.ResultRow.{ResultRow};
 ghost use Rattle.ql_rel.specs.RowOrder.{first_ones};
 ghost use Rattle.ql_rel.specs.SelectRows as spec;
-ghost use Rattle.ql_exec.specs.OrderFacts.{total_once};
 ghost use Rattle.ql_exec.specs.Seen as seen;
 
-use crate::order_by::compare_lists;
+use crate::known::Shown;
 use crate::values::add_copies;
 use ql_edge::NoMemory;
 use ql_rel::{ResultRow, ResultRows};
 use ql_value::{Value, Values, order_laws};
 use std::alloc::Global;
-use std::cmp::Ordering;
 use std::collections::BTreeSet;
-
-/// What a row shows, by the order of values.
-#[derive(Drop)]
-struct Shown {
-    values: Values,
-    ghost total: { IsTotalOrder compared } by { total_once },
-}
-
-impl PartialEq for Shown {
-    ghost eq = { eq_by_cmp seen.shown_cmp };
-
-    ghost laws = { partial_equiv_from_equiv (eq_by_cmp_equiv seen.shown_total) };
-
-    fn eq(&self, other: &Shown) -> bool {
-        matches!(self.cmp(other), Ordering::Equal)
-    }
-}
-
-impl Eq for Shown {
-    ghost laws = { eq_by_cmp_equiv seen.shown_total };
-}
-
-impl PartialOrd for Shown {
-    ghost partial_cmp = { as_partial_cmp seen.shown_cmp };
-
-    ghost laws = { partial_order_from_total seen.shown_total };
-
-    fn partial_cmp(&self, other: &Shown) -> Option<Ordering> {
-        Some(self.cmp(other))
-    }
-}
-
-impl Ord for Shown {
-    ghost cmp = { seen.shown_cmp };
-
-    ghost total = { seen.shown_total };
-
-    ghost matches_partial_cmp = { λ x y. refl };
-
-    ghost matches_eq = { λ x y. refl };
-
-    fn cmp(&self, other: &Shown) -> Ordering {
-        compare_lists(self.values.as_slice(), other.values.as_slice())
-    }
-}
 
 /// A row of NULLs in place of another one.
 fn nulls_for(alloc: Global, row: &[Value]) -> Result<Values, NoMemory>

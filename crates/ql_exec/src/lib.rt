@@ -9,6 +9,7 @@ mod drop;
 mod execution;
 mod fault;
 mod insert;
+mod known;
 mod laws;
 mod limits;
 mod order_by;

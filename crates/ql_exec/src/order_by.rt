@@ -1,16 +1,23 @@
-//! ORDER BY.
+//! ORDER BY, and the rows of a result in their order.
 
-ghost use Rattle.std.specs.Prelude.{◌≡◌, ◌++◌, IfOk};
+ghost use Rattle.std.specs.Prelude.{◌≡◌, ℕ, ◌++◌, map, Option, IfOk, OnOk};
 ghost use Rattle.std.specs.List.{AllByRecursion};
 ghost use Rattle.std.specs.Ordering.{is_lt};
+ghost use Rattle.ql_rel.specs.declared.db.Db.{Db};
+ghost use Rattle.ql_rel.specs.declared.select.KeyedRow.{KeyedRow};
 ghost use Rattle.ql_rel.specs.declared.select.ResultRow.{ResultRow};
 ghost use Rattle.ql_rel.specs.RowOrder as order;
 ghost use Rattle.ql_rel.specs.SelectRows as spec;
 ghost use Rattle.ql_exec.specs.Answers.{Answers, AreTypedAt};
+ghost use Rattle.ql_exec.specs.Carries.{IsCausedExec};
+ghost use Rattle.ql_exec.specs.Scans.{AddsText};
+ghost use Rattle.ql_exec.specs.Windows as windows;
 
 use crate::ExecFault;
+use crate::distinct::distinct_rows;
+use crate::limits::{Window, show_row};
 use crate::values::{add_copies, values_of};
-use ql_edge::NoMemory;
+use ql_edge::{Bytes, NoMemory};
 use ql_eval::Typeds;
 use ql_rel::{KeyedRow, KeyedRows, ResultRow, ResultRows};
 use ql_value::{Value, compare, order_laws};
@@ -21,20 +28,21 @@ use std::cmp::Ordering;
 pub(crate) fn compare_lists(left: &[Value], right: &[Value]) -> Ordering
     ensures { result ≡ order.compared_lists left.now right.now }
 {
-    let mut left = left;
-    let mut right = right;
-    'values: while let Some((x, xs)) = left.split_first() {
-        let Some((y, ys)) = right.split_first() else {
+    let mut lefts = left;
+    let mut rights = right;
+    'values: while let Some((x, xs)) = lefts.split_first() {
+        let Some((y, ys)) = rights.split_first() else {
             return Ordering::Greater;
         };
-        let here = compare(x, y);
-        if here != Ordering::Equal {
-            return here;
+        match compare(x, y) {
+            Ordering::Equal => {
+                lefts = xs;
+                rights = ys;
+            }
+            order => return order,
         }
-        left = xs;
-        right = ys;
     }
-    if right.is_empty() {
+    if rights.is_empty() {
         Ordering::Equal
     } else {
         Ordering::Less
@@ -86,4 +94,38 @@ fn keyed_rows(alloc: Global, keys: &Typeds, rows: ResultRows) -> Result<KeyedRow
         keyed.push(keyed_row(alloc, keys, row)?)?;
     }
     Ok(keyed)
+}
+
+/// Adds the lines of the rows that a window shows.
+fn add_each(rows: &[KeyedRow], window: &mut Window, text: &mut Bytes) -> Result<(), NoMemory>
+    ensures { OnOk result (text.new ≡ text.old ++ windows.shown_lines window.old
+        (map (λ (x : KeyedRow). x.values) rows.now)) }
+{
+    'rows: for row in rows {
+        show_row(window, row.values.as_slice(), text)?;
+    }
+    Ok(())
+}
+
+/// Adds a line for each row of a result that a window shows, the rows told apart and in order.
+pub(crate) fn add_in_order(
+    alloc: Global,
+    distinct: bool,
+    descending: bool,
+    keys: &Typeds,
+    found: ResultRows,
+    window: &mut Window,
+    text: &mut Bytes,
+) -> Result<(), ExecFault>
+    requires { AllByRecursion (λ (x : ResultRow). AreTypedAt (x.source ++ x.values) keys.now) found }
+    ensures text { AddsText (windows.ordered_lines distinct descending window.old keys.now found)
+        result text.old text.new }
+    ensures cause { (limit : Option ℕ) (told : Option Db) (faults : ℕ) → IsCausedExec limit told
+        result faults faults }
+{
+    let rows = distinct_rows(alloc, distinct, found)?;
+    let keyed = keyed_rows(alloc, keys, rows)?;
+    let sorted = sort_rows(descending, keyed)?;
+    add_each(sorted.as_slice(), window, text)?;
+    Ok(())
 }

@@ -1,6 +1,6 @@
 //! SELECT, by its plan.
 
-ghost use Rattle.std.specs.Prelude.{◌≡◌, [], ◌∷◌, map, IsTrue, IsOk, Ok, IfSome, OnErr};
+ghost use Rattle.std.specs.Prelude.{◌≡◌, false, [], ◌∷◌, map, IsTrue, IsOk, Ok, IfSome, OnErr};
 ghost use Rattle.ql_syntax.specs.declared.syntax.Select.{out-Select};
 ghost use Rattle.ql_syntax.specs.Answers.{then_with};
 ghost use Rattle.ql_syntax.specs.Typing.{type_of};
@@ -12,13 +12,14 @@ ghost use Rattle.ql_rel.specs.WellFormed.{IsWellFormed};
 ghost use Rattle.ql_exec.specs.Carries.{IsCausedExec, Leaves};
 ghost use Rattle.ql_exec.specs.Scans.{AddsText};
 ghost use Rattle.ql_exec.specs.Turns.{rows_of, types_if, IsThere, Opens, results_left};
-ghost use Rattle.ql_exec.specs.Windows.{shown_lines, result_lines, select_lines};
+ghost use Rattle.ql_exec.specs.Windows.{is_in_turn, shown_lines, result_lines, ordered_lines, select_lines};
 
 use crate::ExecFault;
 use crate::fault::refusal;
 use crate::insert::table_named;
 use crate::limits::{Window, count_of, show_row, window_of};
-use crate::source::{RowsLeft, next_result, pass_rows};
+use crate::order_by::add_in_order;
+use crate::source::{RowsLeft, collect_results, next_result, pass_rows};
 use crate::text::heading;
 use ql_edge::Bytes;
 use ql_rel::{Plan, Rel};
@@ -28,7 +29,7 @@ use std::alloc::Global;
 
 /// Whether rows are shown in the order in which they come, and each of them.
 fn is_in_turn(distinct: bool, plan: &Plan) -> bool
-    ensures { result ≡ spec.is_in_turn distinct plan.now }
+    ensures { result ≡ is_in_turn distinct plan.now }
 {
     !distinct && plan.keys.is_empty()
 }
@@ -101,11 +102,49 @@ fn add_lines<R: Rel>(
     Ok(())
 }
 
-/// Adds a line for each row of a result that a window shows.
+/// Adds the lines of a result without groups that a window shows, its rows told apart and in order.
+fn add_ordered<R: Rel>(
+    alloc: Global,
+    rel: &mut R,
+    left: &mut RowsLeft,
+    select: &Select,
+    plan: &Plan,
+    window: &mut Window,
+    text: &mut Bytes,
+) -> Result<(), ExecFault>
+    requires ready { IsTrue (R.is_ready rel.old) }
+    requires there { IsThere left.old.table (R.schema rel.old) }
+    requires formed { IfSome (R.db rel.old) IsWellFormed }
+    requires typed { types.SelectTyped (types_if left.old.table (R.schema rel.old)) plan.now }
+    requires plain { plan.now.grouped ≡ false }
+    ensures text { IfSome (R.db rel.old) (λ d. AddsText (then_with (results_left plan.now.filter
+        plan.now.fields (rows_of left.old d)) (ordered_lines (out-Select select.now).distinct
+        (out-Select select.now).descending window.old plan.now.keys)) result text.old text.new) }
+    ensures db { R.db rel.new ≡ R.db rel.old }
+    ensures schema { R.schema rel.new ≡ R.schema rel.old }
+    ensures ready { R.is_ready rel.new ≡ R.is_ready rel.old }
+    ensures leaves { Leaves R.saved R.limit R.told R.left R.fixed rel.old rel.new }
+    ensures cause { IsCausedExec (R.limit rel.old) (R.db rel.old) result (R.faults rel.old)
+        (R.faults rel.new) }
+{
+    let found = collect_results(alloc, rel, left, plan)?;
+    add_in_order(
+        alloc,
+        select.distinct,
+        select.descending,
+        &plan.keys,
+        found,
+        window,
+        text,
+    )
+}
+
+/// Adds the lines of a result that a window shows.
 fn add_result<R: Rel>(
     alloc: Global,
     rel: &mut R,
     left: &mut RowsLeft,
+    select: &Select,
     plan: &Plan,
     window: &mut Window,
     text: &mut Bytes,
@@ -115,8 +154,9 @@ fn add_result<R: Rel>(
     requires formed { IfSome (R.db rel.old) IsWellFormed }
     requires typed { types.SelectTyped (types_if left.old.table (R.schema rel.old)) plan.now }
     ensures text { IfSome (R.db rel.old) (λ d. AddsText (then_with (spec.filtered plan.now.filter
-        (rows_of left.old d)) (λ meant. then_with (spec.results_of plan.now meant) (result_lines
-        window.old))) result text.old text.new) }
+        (rows_of left.old d)) (λ meant. then_with (spec.results_of plan.now meant) (ordered_lines
+        (out-Select select.now).distinct (out-Select select.now).descending window.old
+        plan.now.keys))) result text.old text.new) }
     ensures db { R.db rel.new ≡ R.db rel.old }
     ensures schema { R.schema rel.new ≡ R.schema rel.old }
     ensures ready { R.is_ready rel.new ≡ R.is_ready rel.old }
@@ -128,10 +168,13 @@ fn add_result<R: Rel>(
         pass_rows(alloc, rel, left, &plan.filter)?;
         return Err(refusal(alloc, LATER));
     }
-    add_lines(alloc, rel, left, plan, window, text)
+    if is_in_turn(select.distinct, plan) {
+        return add_lines(alloc, rel, left, plan, window, text);
+    }
+    add_ordered(alloc, rel, left, select, plan, window, text)
 }
 
-/// Adds the lines of a SELECT that has a plan and shows rows in turn.
+/// Adds the lines of a SELECT that has a plan.
 fn add_shown<R: Rel>(
     alloc: Global,
     rel: &mut R,
@@ -142,7 +185,6 @@ fn add_shown<R: Rel>(
     requires ready { IsTrue (R.is_ready rel.old) }
     requires formed { IfSome (R.db rel.old) IsWellFormed }
     requires plan { select_plan (R.schema rel.old) select.now ≡ Ok plan.now }
-    requires in_turn { IsTrue (spec.is_in_turn (out-Select select.now).distinct plan.now) }
     ensures text { IfSome (R.db rel.old) (λ d. AddsText (select_lines d select.now plan.now) result
         text.old text.new) }
     ensures db { R.db rel.new ≡ R.db rel.old }
@@ -158,7 +200,7 @@ fn add_shown<R: Rel>(
         return Err(refusal(alloc, LATER));
     };
     let mut window = window_of(limit, offset);
-    add_result(alloc, rel, &mut left, plan, &mut window, text)
+    add_result(alloc, rel, &mut left, select, plan, &mut window, text)
 }
 
 /// Adds the text of a SELECT that has a plan. After a refusal the text is as before.
@@ -183,9 +225,6 @@ pub fn add_select<R: Rel>(
     ensures cause { IsCausedExec (R.limit rel.old) (R.db rel.old) result (R.faults rel.old)
         (R.faults rel.new) }
 {
-    if !is_in_turn(select.distinct, plan) {
-        return Err(refusal(alloc, LATER));
-    }
     let mut text = heading(alloc, with_names, &plan.names)?;
     add_shown(alloc, rel, select, plan, &mut text)?;
     out.extend(text.as_slice())?;

@@ -1,21 +1,22 @@
 //! The rows of a FROM, gone over one by one.
 
 ghost use Rattle.std.specs.Prelude.{◌≡◌, ℕ, ◌<◌, IsTrue, [], length, Some, None, Ok, IfSome, IfOk};
+ghost use Rattle.std.specs.List.{AllByRecursion};
 ghost use Rattle.ql_syntax.specs.Typing.{FitsRow, type_of};
 ghost use Rattle.ql_rel.specs.declared.db.Db.{Db};
 ghost use Rattle.ql_rel.specs.Databases.{columns_at};
 ghost use Rattle.ql_rel.specs.PlanTypes.{AreTyped, IsFilter};
 ghost use Rattle.ql_rel.specs.SelectRows as spec;
 ghost use Rattle.ql_rel.specs.WellFormed.{IsWellFormed};
-ghost use Rattle.ql_exec.specs.Carries.{IsCausedExec, IsTroubleAlone, Leaves};
+ghost use Rattle.ql_exec.specs.Carries.{IsCausedExec, IsTroubleAlone, Leaves, Shows};
 ghost use Rattle.ql_exec.specs.Scans.{table_types};
-ghost use Rattle.ql_exec.specs.Turns.{rows_if, rows_of, types_if, IsThere, Rises, results_left, Comes, Passes};
+ghost use Rattle.ql_exec.specs.Turns.{rows_if, rows_of, types_if, IsThere, Rises, results_left, Comes, Passes, FitsResult};
 
 use crate::ExecFault;
 use crate::query::{next_row, set_row};
 use crate::values::{is_meant, values_of};
 use ql_eval::Typed;
-use ql_rel::{Plan, Rel, ResultRow, Row};
+use ql_rel::{Plan, Rel, ResultRow, ResultRows, Row};
 use ql_value::Values;
 use std::alloc::Global;
 
@@ -178,6 +179,8 @@ pub(crate) fn next_result<R: Rel>(
     ensures row { IfSome (R.db rel.old) (λ d. Comes (results_left plan.now.filter plan.now.fields
         (rows_of left.old d)) result (results_left plan.now.filter plan.now.fields
         (rows_of left.new d))) }
+    ensures fits { IfOk result (λ row. IfSome row (FitsResult (types_if left.old.table
+        (R.schema rel.old)) plan.now.fields)) }
     ensures table { left.new.table ≡ left.old.table }
     ensures over { IfOk result (λ row. IfSome row (λ _. Rises left.old.after left.new.after)) }
     ensures db { R.db rel.new ≡ R.db rel.old }
@@ -200,4 +203,35 @@ pub(crate) fn next_result<R: Rel>(
             Err(fault)
         }
     }
+}
+
+/// All rows that are left of the result of a SELECT without groups.
+pub(crate) fn collect_results<R: Rel>(
+    alloc: Global,
+    rel: &mut R,
+    left: &mut RowsLeft,
+    plan: &Plan,
+) -> Result<ResultRows, ExecFault>
+    requires ready { IsTrue (R.is_ready rel.old) }
+    requires there { IsThere left.old.table (R.schema rel.old) }
+    requires formed { IfSome (R.db rel.old) IsWellFormed }
+    requires filter { IsFilter (types_if left.old.table (R.schema rel.old)) plan.now.filter }
+    requires fields { AreTyped (type_of (types_if left.old.table (R.schema rel.old)))
+        plan.now.fields }
+    ensures rows { IfSome (R.db rel.old) (λ d. Shows (results_left plan.now.filter plan.now.fields
+        (rows_of left.old d)) result) }
+    ensures fits { IfOk result (AllByRecursion (FitsResult (types_if left.old.table
+        (R.schema rel.old)) plan.now.fields)) }
+    ensures db { R.db rel.new ≡ R.db rel.old }
+    ensures schema { R.schema rel.new ≡ R.schema rel.old }
+    ensures ready { R.is_ready rel.new ≡ R.is_ready rel.old }
+    ensures leaves { Leaves R.saved R.limit R.told R.left R.fixed rel.old rel.new }
+    ensures cause { IsCausedExec (R.limit rel.old) (R.db rel.old) result (R.faults rel.old)
+        (R.faults rel.new) }
+{
+    let mut results = ResultRows::new(alloc);
+    'rows: while let Some(row) = next_result(alloc, rel, left, plan)? {
+        results.push(row)?;
+    }
+    Ok(results)
 }

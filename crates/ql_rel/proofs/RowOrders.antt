@@ -156,7 +156,7 @@ among_like o xs ys (zs ∷ lists) h =
     let here : are_same zs xs ≡ are_same zs ys = same_back o zs xs ∙ same_like o xs ys zs h ∙ same_back o ys zs in
     rw (here, among_like o xs ys lists h) refl
 
-among_more : (xs : List Value) (lists : List (List Value)) (ys : List Value) → is_among xs (lists ++ ys ∷ []) ≡ (is_among xs lists || are_same ys xs)
+pub among_more : (xs : List Value) (lists : List (List Value)) (ys : List Value) → is_among xs (lists ++ ys ∷ []) ≡ (is_among xs lists || are_same ys xs)
 among_more xs [] ys = ends (are_same ys xs) where
   ends : (b : Bool) → (b || false) ≡ (false || b)
   ends true = refl

@@ -1,11 +1,7 @@
 -- The names of the fields, and the lines behind them.
 use Rattle.std.proofs.Common.{◌++◌, List, ℕ, sym, ap, ◌∙◌}
-use Rattle.ql_exec.proofs.Shown.{text_added, text_stops, text_later}
+use Rattle.ql_exec.proofs.Shown.{text_added, text_stops}
 use Rattle.ql_exec.proofs.select.add_select.Goals as goal
-
-pub returns-then-not-is_in_turn-clause-text : goal.returns-then-not-is_in_turn-clause-text
-returns-then-not-is_in_turn-clause-text g c =
-    rw c.refusal.ensures (text_later c.args.with_names c.args.select.now c.args.plan.now _ (sym c.is_in_turn.ensures ∙ c.if-not-is_in_turn.true))
 
 pub returns-in_err-add_shown-clause-text : goal.returns-in_err-add_shown-clause-text
 returns-in_err-add_shown-clause-text g c =
