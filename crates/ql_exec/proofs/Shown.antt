@@ -1,6 +1,7 @@
 -- The text of a SELECT, from its parts in turn.
-use Rattle.std.proofs.Common.{◌≡◌, ℕ, ◌==◌, Bool, true, false, not, ◌&&◌, if◌then◌else◌, List, [], ◌∷◌, ◌++◌, length, map, Option, Some, None, IfSome, Result, Ok, Err, refl, sym, ap, subst, ◌∙◌}
+use Rattle.std.proofs.Common.{◌≡◌, ℕ, ◌==◌, Bool, true, false, not, ◌&&◌, if◌then◌else◌, List, [], ◌∷◌, ◌++◌, length, map, Option, Some, None, IfSome, Result, Ok, Err, refl, sym, ap, subst, ◌∙◌, arith}
 use Rattle.std.specs.Prelude.{IsErrAnd}
+use Rattle.std.proofs.lemmas.Bool.Decides.{nat_tests}
 use Rattle.ql_value.specs.declared.refusal.Refusal.{Refusal}
 use Rattle.ql_value.specs.declared.refusal.TheConstants.{LATER}
 use Rattle.ql_value.specs.declared.value.Value.{Value}
@@ -63,7 +64,7 @@ in_turn d w rows =
 not_distinct : (distinct : Bool) (keys : List Typed) → (not distinct && length keys == 0) ≡ true → (distinct ≡ false) × (keys ≡ [])
 not_distinct true keys e = absurd (cc)
 not_distinct false [] e = (refl, refl)
-not_distinct false (x ∷ keys) e = absurd (cc)
+not_distinct false (x ∷ keys) e = let some : (length (x ∷ keys) == 0) ≡ false = grind (arith, nat_tests) in absurd (cc)
 
 same_next : (d : Bool) (w : Window) (distinct : Bool) (keys : List Typed) (rows : List ResultRow) → distinct ≡ false → keys ≡ [] → result_lines w rows ≡ ordered_lines distinct d w keys rows
 same_next d w distinct keys rows e k = sym (ap (λ (b : Bool). ordered_lines b d w keys rows) e ∙ ap (λ (ks : List Typed). ordered_lines false d w ks rows) k ∙ in_turn d w rows)

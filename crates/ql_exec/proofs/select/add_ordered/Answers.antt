@@ -13,7 +13,7 @@ add_in_order-requires g c =
 pub returns-in_err-found-clause-text : goal.returns-in_err-found-clause-text
 returns-in_err-found-clause-text g c =
     let select = out-Select c.args.select.now in
-    ordered_stops (ordered_lines select.distinct select.descending c.args.window.now c.args.plan.now.keys) _ c.in_err-found.field-0.0 _ _ _ _ c.from_residual-in_err-found.ensures.1 c.in_err-found.ensures.rows
+    ordered_stops (ordered_lines select.distinct select.descending c.args.window.now c.args.plan.now.keys) _ c.in_err-found.field-0.0 _ _ _ _ c.from_residual.ensures.1 c.in_err-found.ensures.rows
 
 pub returns-clause-text : goal.returns-clause-text
 returns-clause-text g c =
