@@ -1,5 +1,5 @@
 """What statements do to tables, a second time: CREATE TABLE, ALTER TABLE, INSERT of rows, UPDATE, DELETE, TRUNCATE and DROP
-TABLE over columns of int64, and SELECT of fields over one table.
+TABLE over columns of int64, and SELECT over one table.
 
 An expression is a pair: its text, and a function of a row (a dict of names, with "id()") that gives its value, None for NULL,
 or raises `Refused`. It is written from docs/LANGUAGE.md and not from the program.
@@ -154,6 +154,26 @@ class Tables:
         columns, held = self.table(name)
         return [", ".join("<nil>" if x is None else str(x) for x in [id, *values]) for id, values in sorted(held.items())]
 
+    def select(self, name, distinct, fields, where, keys, descending, limit, offset):
+        """The lines of a SELECT: all conditions, then all fields, then all keys; a key sees the fields by their names, and
+        the row too where there is no DISTINCT."""
+        columns, held = self.table(name)
+        rows = [dict(zip(columns, values)) | {"id()": id} for id, values in sorted(held.items())]
+        meant = [row for row in rows if where(row) is True]
+        found = [(row, [part(row) for part in fields]) for row in meant]
+        if distinct:
+            first = {}
+            for row, values in found:
+                first.setdefault(tuple(values), (row, values))
+            found = list(first.values())
+        keyed = []
+        for row, values in found:
+            seen = ({} if distinct else row) | {f"f{at}": value for at, value in enumerate(values)}
+            keyed.append(([(key is not None, key or 0) for key in [part(seen) for part in keys]], values))
+        keyed.sort(key=lambda row: row[0], reverse=descending)
+        lines = [", ".join("<nil>" if x is None else str(x) for x in values) for _, values in keyed]
+        return lines[offset or 0 :][:limit]
+
 
 class Script:
     """A random script, what it shows, and the line that it warns."""
@@ -231,4 +251,22 @@ class Script:
         if choice < 0.91 and (len(columns) > 1 or source.random() < 0.1):
             column = source.choice(columns if source.random() < 0.95 else "abcd")
             return f"ALTER TABLE {name} DROP COLUMN {column}", lambda: tables.lose(name, column)
-        return f"SELECT id(), {', '.join(columns)} FROM {name}", lambda: tables.shown(name)
+        if choice < 0.95:
+            return f"SELECT id(), {', '.join(columns)} FROM {name}", lambda: tables.shown(name)
+        return self.select(name, columns)
+
+    def select(self, name, columns):
+        """A SELECT with some of its parts."""
+        source, tables, seen = self.source, self.tables, [*columns, "id()"]
+        distinct, descending = source.random() < 0.5, source.random() < 0.5
+        fields = [number(source, seen, source.randint(0, 1)) for _ in range(source.randint(1, 3))]
+        where, test = self.where(columns)
+        names = [f"f{at}" for at in range(len(fields))] + ([] if distinct else seen)
+        keys = [number(source, names, source.randint(0, 2)) for _ in range(source.choice([0, 1, 1, 2]))]
+        text = f"SELECT {'DISTINCT ' * distinct}{', '.join(f'{field} AS f{at}' for at, (field, _) in enumerate(fields))} FROM {name}{where}"
+        if keys:
+            text += f" ORDER BY {', '.join(key for key, _ in keys)}{' DESC' * descending}"
+        limit, offset = source.choice([None, None, 0, 1, 3]), source.choice([None, None, None, 0, 1, 2])
+        text += "" if limit is None else f" LIMIT {limit}"
+        text += "" if offset is None else f" OFFSET {offset}"
+        return text, lambda: tables.select(name, distinct, [f for _, f in fields], test, [k for _, k in keys], descending and bool(keys), limit, offset)

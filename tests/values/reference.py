@@ -199,21 +199,31 @@ def count(checked):
     return number
 
 
+def at(expr, row):
+    """The expression with the values of a row in place of its places."""
+    if isinstance(expr, list):
+        return [at(part, row) for part in expr]
+    if not isinstance(expr, tuple):
+        return expr
+    return ("constant", row[expr[1]]) if expr[:1] == ("place",) else tuple(at(part, row) for part in expr)
+
+
 def rows(statement):
     """The lines that a statement shows: one, or none."""
     if not isinstance(statement, trees.Select):
         raise Refused(10)
     plan = plan_of(statement, Schema({}, {}))
-    if statement.distinct or plan.keys:
-        raise Refused(10)
     limit, offset = count(plan.limit), count(plan.offset)
     if statement.sets or statement.join:
         raise Refused(10)
     meant = plan.where is None or value(plan.where.expr) is True
     if plan.grouped:
         raise Refused(10)
-    lines = [", ".join(printed(value(field.expr)) for _, field in plan.fields)] if meant else []
-    return lines[offset or 0 :][:limit]
+    found = [[value(field.expr) for _, field in plan.fields]] if meant else []
+    for row in found:
+        for key in plan.keys:
+            value(at(key.expr, row))
+    return [", ".join(map(printed, row)) for row in found][offset or 0 :][:limit]
 
 
 def outcome(script):

@@ -67,9 +67,12 @@ def selects(count):
         wrong = ["nosuch", "len()", "uint8(300)", '(1 + "a")', '("a" LIKE "b")', "1 IN (SELECT 2)", "count()"]
         exprs = Expressions(source, 0.01 if number % 8 == 0 else 0, {}, wrong)
         kinds = source.choices([*KINDS, UNTYPED, *TOLD], k=source.randint(1, 3))
-        select = "SELECT " + ", ".join(exprs.text(kind, source.randint(1, 4)) for kind in kinds)
+        select = f"SELECT {'DISTINCT ' * (source.random() < 0.1)}" + ", ".join(exprs.text(kind, source.randint(1, 4)) for kind in kinds)
         if source.random() < 0.2:
             select += f" WHERE {exprs.text('bool', 3)}"
+        if source.random() < 0.2:
+            keys = [exprs.text(source.choice([*KINDS, *TOLD]), 2) for _ in range(source.randint(1, 2))]
+            select += f" ORDER BY {', '.join(keys)}{source.choice(['', ' ASC', ' DESC'])}"
         for word in ("LIMIT", "OFFSET"):
             if source.random() < 0.1:
                 select += f" {word} {source.choice(['0', '1', '2', 'NULL', '-1', exprs.text('int8', 2)])}"
